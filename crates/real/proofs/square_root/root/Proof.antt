@@ -1,0 +1,66 @@
+use mathlib.Core.Path.{sym, ap, _∙_, subst}
+use native.Mathlib.Omega.{arith}
+use lib.Dec.{T}
+use lib.Ieee.{binary64, fits}
+use Rattle.real.specs.Root.{rootOf}
+use Rattle.real.proofs.Values.{zero-by-zero}
+use Rattle.real.proofs.Patterns.{own-root, root-zero, root-minus-zero, root-infinity, root-none, pattern-of, pattern-lt}
+use borrow.Author.Needs.{needs}
+use Rattle.real.proofs.square_root.root.Statement.{statement}
+use Rattle.real.proofs.square_root.root.Tie as tie
+
+-- what owning an `f64` tells: the format holds it
+held : (c : tie.Start) → T (fits binary64 (c .args .x))
+held c = subst T (sym (c .good .0 .1)) tt
+
+bits-requires : tie.Need-bits-requires
+bits-requires c κs = search needs
+
+root-bits-requires : tie.Need-root-bits-requires
+root-bits-requires c κs = search needs
+
+from-bits-requires : tie.Need-from-bits-requires
+from-bits-requires c κs = search needs
+
+returns : tie.Need-returns
+returns c =
+    let a = c .before .before in
+    own-root (a .before .args .x) 0 (held (a .before)) (sym (c .if2 .taken) ∙ a .bits .ensures) root-zero
+
+returns-2 : tie.Need-returns-2
+returns-2 c =
+    let a = c .before .before .before .before in
+    c .from-bits .ensures ∙ c .before .root-bits .ensures .1 ∙ ap (rootOf binary64) (pattern-of (a .before .args .x) (a .bits .result) (held (a .before)) (a .bits .ensures))
+
+returns-3 : tie.Need-returns-3
+returns-3 c =
+    let a = c .before .before in
+    own-root (a .before .args .x) 0x7ff0_0000_0000_0000 (held (a .before)) (sym (c .if3 .taken) ∙ a .bits .ensures) root-infinity
+
+returns-4 : tie.Need-returns-4
+returns-4 c =
+    let a = c .before .before .before in
+    own-root (a .before .args .x) 0x8000_0000_0000_0000 (held (a .before)) (sym (c .if4 .taken) ∙ a .bits .ensures) root-minus-zero
+
+returns-5 : tie.Need-returns-5
+returns-5 c =
+    let a = c .before .before .before in
+    let x = a .before .args .x in
+    let b = a .bits .result in
+    let t = held (a .before) in
+    zero-by-zero
+    ∙ sym (root-none b (pattern-lt x b t (a .bits .ensures)) (omega arith) (c .if4 .left))
+    ∙ ap (rootOf binary64) (pattern-of x b t (a .bits .ensures))
+
+pub root-spec : {M : Type 1} → statement M
+root-spec =
+    tie.close
+    (tie.spec
+    bits-requires
+    root-bits-requires
+    from-bits-requires
+    returns
+    returns-2
+    returns-3
+    returns-4
+    returns-5)

@@ -1,0 +1,37 @@
+use mathlib.Core.Path.{_≡_}
+use Prim.Native.Nat.{ℕ, _+_, _*_, _^_}
+use native.Mathlib.Omega.{arith}
+use lib.Dec.{lit≤, lit<}
+use Rattle.real.specs.Whole.{Root}
+use Rattle.real.proofs.Squares.{root-ge, root-lt, renamed, near-up, near-down}
+use borrow.Author.Needs.{needs}
+use Rattle.real.proofs.whole.near.Statement.{statement}
+use Rattle.real.proofs.whole.near.Tie as tie
+
+all : (c : tie.After-extend) → Root (c .before .before .args .m * 2 ^ 52) (c .extend .result .s) (c .extend .result .r)
+all c = renamed (zeros (c .before .before .args .m) _ (c .before .whole .ensures .sum)) (c .extend .ensures)
+  where
+    zeros : (m x : ℕ) → x ≡ m → x * (2 ^ 26 * 2 ^ 26) + 0 * 2 ^ 26 + 0 ≡ m * 2 ^ 52
+    zeros m x h = omega arith
+
+whole-requires : tie.Need-whole-requires
+whole-requires c κs = search needs
+
+extend-requires : tie.Need-extend-requires
+extend-requires c κs =
+    let h = c .whole .ensures in
+    let s-ge = root-ge _ _ _ (2 ^ 26) h (omega (arith, c .before .pre)) in
+    let s-lt = root-lt _ _ _ (2 ^ 27) h (omega (arith, c .before .pre)) in
+    (s-lt, (lit≤ tt, record { rest = h .rest; wide = omega arith; high = lit< tt; low = lit< tt }))
+
+add-result : tie.Need-add-result
+add-result c = search needs
+
+returns : tie.Need-returns
+returns c = near-up _ _ _ (all (c .before .before)) (c .if1 .taken)
+
+returns-2 : tie.Need-returns-2
+returns-2 c = near-down _ _ _ (omega (arith, c .before .before .before .before .pre)) (all (c .before .before)) (c .if1 .left)
+
+pub near-spec : {M : Type 1} → statement M
+near-spec = tie.close (tie.spec whole-requires extend-requires add-result returns returns-2)
