@@ -1,0 +1,76 @@
+// Radius and centre of an arc.
+use plane::PlineVertex;
+use plane::Vector2;
+use plane::seg_in_range;
+use real::BAD_NUMBER;
+use real::NO_ARC;
+use real::magnitude;
+ghost use mathlib.Core.Path.{_≡_};
+ghost use Rattle.plane.specs.Grade.{double};
+ghost use Rattle.seg.specs.Arc.{arcReply, chordOf, quarterOf, radiusOf, centerOf, circleOf, segCircle};
+
+pub struct Circle {
+    pub radius: f64,
+    pub center: Vector2,
+}
+
+pub enum ArcAnswer {
+    Given(Circle),
+    Refused(u8),
+}
+
+pub fn chord(v1: PlineVertex, v2: PlineVertex) -> Vector2
+    ensures { λ r. ⌜ r ≡ chordOf double v1 v2 ⌝ }
+{
+    v2.pos().sub(v1.pos())
+}
+
+pub fn inv_four_bulge(bulge: f64) -> f64
+    ensures { λ r. ⌜ r ≡ quarterOf double bulge ⌝ }
+{
+    1.0 / (4.0 * bulge)
+}
+
+pub fn arc_radius(v1: PlineVertex, v2: PlineVertex) -> f64
+    ensures { λ r. ⌜ r ≡ radiusOf double v1 v2 ⌝ }
+{
+    let bulge = v1.bulge;
+    let bulge_squared = bulge * bulge;
+    chord(v1, v2).length() * (1.0 + bulge_squared) * magnitude(inv_four_bulge(bulge))
+}
+
+pub fn arc_center(v1: PlineVertex, v2: PlineVertex) -> Vector2
+    ensures { λ r. ⌜ r ≡ centerOf double v1 v2 ⌝ }
+{
+    let bulge = v1.bulge;
+    let c = chord(v1, v2);
+    let half = c.scale(1.0 / 2.0);
+    let rise = c.perp()
+        .scale((1.0 - bulge) * (1.0 + bulge) * inv_four_bulge(bulge));
+    v1.pos().add(half).add(rise)
+}
+
+pub fn arc_circle(v1: PlineVertex, v2: PlineVertex) -> Circle
+    ensures { λ r. ⌜ r ≡ circleOf double v1 v2 ⌝ }
+{
+    let radius = arc_radius(v1, v2);
+    let center = arc_center(v1, v2);
+    Circle { radius, center }
+}
+
+pub fn seg_arc_radius_and_center(v1: PlineVertex, v2: PlineVertex) -> ArcAnswer
+    ensures { λ r. ⌜ arcReply r ≡ segCircle double (double .line) v1 v2 ⌝ }
+{
+    let start = Vector2 { x: v1.x, y: v1.y };
+    let end = Vector2 { x: v2.x, y: v2.y };
+    if !seg_in_range(v1, v2) {
+        return ArcAnswer::Refused(BAD_NUMBER);
+    }
+    if v1.bulge_is_zero() {
+        return ArcAnswer::Refused(NO_ARC);
+    }
+    if start.fuzzy_eq(end) {
+        return ArcAnswer::Refused(NO_ARC);
+    }
+    ArcAnswer::Given(arc_circle(v1, v2))
+}

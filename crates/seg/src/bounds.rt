@@ -1,0 +1,212 @@
+// The true and the fast box of a segment.
+use crate::arc::Circle;
+use crate::arc::arc_circle;
+use crate::arc::chord;
+use plane::PlineVertex;
+use plane::Vector2;
+use plane::min_max;
+use plane::seg_in_range;
+use real::BAD_NUMBER;
+ghost use mathlib.Core.Path.{_≡_};
+ghost use mathlib.Core.Bool.{cond};
+ghost use Rattle.plane.specs.Grade.{double};
+ghost use Rattle.seg.specs.Bounds.{boxReply, lineBox, rises, falls, crossingsOf, anyOf, startRadius, endRadius, crossBox, arcBoxBy, arcBox, boxOf, segBox, downBy, upBy, arcFastBox, fastBox, segFastBox};
+
+pub struct Bounds {
+    pub min_x: f64,
+    pub min_y: f64,
+    pub max_x: f64,
+    pub max_y: f64,
+}
+
+pub enum BoxAnswer {
+    Given(Bounds),
+    Refused(u8),
+}
+
+// The sides that an arc crosses between its ends.
+pub struct Crossings {
+    pub right: bool,
+    pub left: bool,
+    pub top: bool,
+    pub bottom: bool,
+}
+
+fn line_seg_bounding_box(start: Vector2, end: Vector2) -> Bounds
+    ensures { λ r. ⌜ r ≡ lineBox start end ⌝ }
+{
+    let x = min_max(start.x, end.x);
+    let y = min_max(start.y, end.y);
+    Bounds {
+        min_x: x.min,
+        min_y: y.min,
+        max_x: x.max,
+        max_y: y.max,
+    }
+}
+
+fn rising(a: f64, b: f64) -> bool
+    ensures { λ r. ⌜ r ≡ rises double a b ⌝ }
+{
+    a < 0.0 && b > 0.0
+}
+
+fn falling(a: f64, b: f64) -> bool
+    ensures { λ r. ⌜ r ≡ falls double a b ⌝ }
+{
+    a > 0.0 && b < 0.0
+}
+
+// The radius vector at the start, times 4 * bulge.
+fn start_radius(v1: PlineVertex, v2: PlineVertex) -> Vector2
+    ensures { λ r. ⌜ r ≡ startRadius double v1 v2 ⌝ }
+{
+    let bulge = v1.bulge;
+    let c = chord(v1, v2);
+    c.perp()
+        .scale(bulge * bulge - 1.0)
+        .sub(c.scale(2.0 * bulge))
+}
+
+// The radius vector at the end, times 4 * bulge.
+fn end_radius(v1: PlineVertex, v2: PlineVertex) -> Vector2
+    ensures { λ r. ⌜ r ≡ endRadius double v1 v2 ⌝ }
+{
+    let bulge = v1.bulge;
+    let c = chord(v1, v2);
+    c.perp()
+        .scale(bulge * bulge - 1.0)
+        .add(c.scale(2.0 * bulge))
+}
+
+fn find_crossings(start: Vector2, end: Vector2) -> Crossings
+    ensures { λ r. ⌜ r ≡ crossingsOf double start end ⌝ }
+{
+    Crossings {
+        right: rising(start.y, end.y),
+        left: falling(start.y, end.y),
+        top: falling(start.x, end.x),
+        bottom: rising(start.x, end.x),
+    }
+}
+
+fn crosses(c: Crossings) -> bool
+    ensures { λ r. ⌜ r ≡ anyOf c ⌝ }
+{
+    c.right || (c.left || (c.top || c.bottom))
+}
+
+fn pick(flag: bool, a: f64, b: f64) -> f64
+    ensures { λ r. ⌜ r ≡ cond flag a b ⌝ }
+{
+    if flag { a } else { b }
+}
+
+// The box of the ends, moved out to the circle on each side that the arc crosses.
+fn cross_box(ends: Bounds, circle: Circle, c: Crossings) -> Bounds
+    ensures { λ r. ⌜ r ≡ crossBox double ends circle c ⌝ }
+{
+    Bounds {
+        min_x: pick(c.left, circle.center.x - circle.radius, ends.min_x),
+        min_y: pick(c.bottom, circle.center.y - circle.radius, ends.min_y),
+        max_x: pick(c.right, circle.center.x + circle.radius, ends.max_x),
+        max_y: pick(c.top, circle.center.y + circle.radius, ends.max_y),
+    }
+}
+
+// The arc's box, with the box of its ends and its crossings at hand.
+fn arc_box(v1: PlineVertex, v2: PlineVertex, ends: Bounds, c: Crossings) -> Bounds
+    ensures { λ r. ⌜ r ≡ arcBoxBy double v1 v2 ends c ⌝ }
+{
+    let start = Vector2 { x: v1.x, y: v1.y };
+    let end = Vector2 { x: v2.x, y: v2.y };
+    if start.fuzzy_eq(end) {
+        return Bounds {
+            min_x: v1.x,
+            min_y: v1.y,
+            max_x: v1.x,
+            max_y: v1.y,
+        };
+    }
+    if !crosses(c) {
+        return ends;
+    }
+    cross_box(ends, arc_circle(v1, v2), c)
+}
+
+fn arc_seg_bounding_box(v1: PlineVertex, v2: PlineVertex) -> Bounds
+    ensures { λ r. ⌜ r ≡ arcBox double v1 v2 ⌝ }
+{
+    let ends = line_seg_bounding_box(v1.pos(), v2.pos());
+    let c = find_crossings(start_radius(v1, v2), end_radius(v1, v2));
+    arc_box(v1, v2, ends, c)
+}
+
+fn true_box(v1: PlineVertex, v2: PlineVertex) -> Bounds
+    ensures { λ r. ⌜ r ≡ boxOf double (double .line) v1 v2 ⌝ }
+{
+    if v1.bulge_is_zero() {
+        let start = Vector2 { x: v1.x, y: v1.y };
+        let end = Vector2 { x: v2.x, y: v2.y };
+        return line_seg_bounding_box(start, end);
+    }
+    arc_seg_bounding_box(v1, v2)
+}
+
+pub fn seg_bounding_box(v1: PlineVertex, v2: PlineVertex) -> BoxAnswer
+    ensures { λ r. ⌜ boxReply r ≡ segBox double (double .line) v1 v2 ⌝ }
+{
+    if !seg_in_range(v1, v2) {
+        return BoxAnswer::Refused(BAD_NUMBER);
+    }
+    BoxAnswer::Given(true_box(v1, v2))
+}
+
+// A least edge of the fast box, moved by the sagitta's offset where that goes its way.
+fn down(edge: f64, offset: f64) -> f64
+    ensures { λ r. ⌜ r ≡ downBy double edge offset ⌝ }
+{
+    if offset < 0.0 { edge + offset } else { edge }
+}
+
+// A greatest edge.
+fn up(edge: f64, offset: f64) -> f64
+    ensures { λ r. ⌜ r ≡ upBy double edge offset ⌝ }
+{
+    if offset < 0.0 { edge } else { edge + offset }
+}
+
+fn arc_fast_box(v1: PlineVertex, v2: PlineVertex) -> Bounds
+    ensures { λ r. ⌜ r ≡ arcFastBox double v1 v2 ⌝ }
+{
+    let ends = line_seg_bounding_box(v1.pos(), v2.pos());
+    let half_bulge = v1.bulge / 2.0;
+    let offset_x = half_bulge * (v2.y - v1.y);
+    let offset_y = -half_bulge * (v2.x - v1.x);
+    Bounds {
+        min_x: down(ends.min_x, offset_x),
+        min_y: down(ends.min_y, offset_y),
+        max_x: up(ends.max_x, offset_x),
+        max_y: up(ends.max_y, offset_y),
+    }
+}
+
+fn fast_box(v1: PlineVertex, v2: PlineVertex) -> Bounds
+    ensures { λ r. ⌜ r ≡ fastBox double (double .line) v1 v2 ⌝ }
+{
+    if v1.bulge_is_zero() {
+        let start = Vector2 { x: v1.x, y: v1.y };
+        let end = Vector2 { x: v2.x, y: v2.y };
+        return line_seg_bounding_box(start, end);
+    }
+    arc_fast_box(v1, v2)
+}
+
+pub fn seg_fast_approx_bounding_box(v1: PlineVertex, v2: PlineVertex) -> BoxAnswer
+    ensures { λ r. ⌜ boxReply r ≡ segFastBox double (double .line) v1 v2 ⌝ }
+{
+    if !seg_in_range(v1, v2) {
+        return BoxAnswer::Refused(BAD_NUMBER);
+    }
+    BoxAnswer::Given(fast_box(v1, v2))
+}

@@ -1,0 +1,88 @@
+// The point of a segment that is closest to a point.
+use crate::answer::PointAnswer;
+use crate::arc::arc_center;
+use crate::arc::chord;
+use crate::arc::inv_four_bulge;
+use plane::PlineVertex;
+use plane::Vector2;
+use plane::dist_squared;
+use plane::line_seg_closest_point;
+use plane::point_in_range;
+use plane::point_within_arc_sweep;
+use plane::seg_in_range;
+use plane::tol_in_range;
+use real::BAD_NUMBER;
+use real::BAD_TOLERANCE;
+use real::magnitude;
+use real::root;
+ghost use mathlib.Core.Path.{_≡_};
+ghost use Rattle.plane.specs.Grade.{double};
+ghost use Rattle.seg.specs.Reply.{pointReply};
+ghost use Rattle.seg.specs.Closest.{radialScale, radialOf, nearerOf, arcClosest, closestOf, segClosest};
+
+// What the radial is scaled by to reach the arc, from the squared chord c2 and the squared radial r2.
+fn radius_to_radial_length(bulge: f64, c2: f64, r2: f64) -> f64
+    ensures { λ r. ⌜ r ≡ radialScale double bulge c2 r2 ⌝ }
+{
+    let bulge_squared = bulge * bulge;
+    root(c2 / r2) * (1.0 + bulge_squared) * magnitude(inv_four_bulge(bulge))
+}
+
+fn radial_point(v1: PlineVertex, v2: PlineVertex, center: Vector2, p: Vector2) -> Vector2
+    ensures { λ r. ⌜ r ≡ radialOf double v1 v2 center p ⌝ }
+{
+    let radial = p.sub(center);
+    let c2 = chord(v1, v2).length_squared();
+    let k = radius_to_radial_length(v1.bulge, c2, radial.length_squared());
+    radial.scale(k).add(center)
+}
+
+fn nearer(a: Vector2, b: Vector2, p: Vector2) -> bool
+    ensures { λ r. ⌜ r ≡ nearerOf double a b p ⌝ }
+{
+    dist_squared(a, p) < dist_squared(b, p)
+}
+
+// The arc's case, with the centre at hand.
+fn arc_closest(v1: PlineVertex, v2: PlineVertex, center: Vector2, p: Vector2, eps: f64) -> Vector2
+    ensures { λ r. ⌜ r ≡ arcClosest double v1 v2 center p eps ⌝ }
+{
+    let start = Vector2 { x: v1.x, y: v1.y };
+    let end = Vector2 { x: v2.x, y: v2.y };
+    if p.fuzzy_eq_eps(center, eps) {
+        return start;
+    }
+    if point_within_arc_sweep(center, start, end, v1.bulge < 0.0, p, eps) {
+        return radial_point(v1, v2, center, p);
+    }
+    if nearer(start, end, p) {
+        return start;
+    }
+    end
+}
+
+fn closest(v1: PlineVertex, v2: PlineVertex, p: Vector2, eps: f64) -> Vector2
+    ensures { λ r. ⌜ r ≡ closestOf double (double .line) v1 v2 p eps ⌝ }
+{
+    if v1.bulge_is_zero() {
+        let start = Vector2 { x: v1.x, y: v1.y };
+        let end = Vector2 { x: v2.x, y: v2.y };
+        return line_seg_closest_point(start, end, p);
+    }
+    arc_closest(v1, v2, arc_center(v1, v2), p, eps)
+}
+
+pub fn seg_closest_point(v1: PlineVertex, v2: PlineVertex, p: Vector2, eps: f64) -> PointAnswer
+    ensures { λ r. ⌜ pointReply r ≡ segClosest double (double .line) v1 v2 p eps ⌝ }
+{
+    if !seg_in_range(v1, v2) {
+        return PointAnswer::Refused(BAD_NUMBER);
+    }
+    if !point_in_range(p) {
+        return PointAnswer::Refused(BAD_NUMBER);
+    }
+    if !tol_in_range(eps) {
+        return PointAnswer::Refused(BAD_TOLERANCE);
+    }
+    PointAnswer::Given(closest(v1, v2, p, eps))
+}

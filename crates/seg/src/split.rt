@@ -1,0 +1,140 @@
+// The split of a segment at a point.
+use crate::arc::chord;
+use plane::PlineVertex;
+use plane::Vector2;
+use plane::point_in_range;
+use plane::seg_in_range;
+use plane::tol_in_range;
+use real::BAD_NUMBER;
+use real::BAD_TOLERANCE;
+use real::magnitude;
+use real::root;
+ghost use mathlib.Core.Path.{_≡_};
+ghost use Rattle.plane.specs.Grade.{double};
+ghost use Rattle.seg.specs.Split.{splitReply, splitAt, signedOf, halfSine, partBulge, otherBulge, ratioSq, splitChords, splitArc, splitOf, segSplit};
+
+pub struct SplitResult {
+    pub updated_start: PlineVertex,
+    pub split_vertex: PlineVertex,
+}
+
+pub enum SplitAnswer {
+    Given(SplitResult),
+    Refused(u8),
+}
+
+fn sin_half_sweep(squared: f64) -> f64
+    ensures { λ r. ⌜ r ≡ halfSine double squared ⌝ }
+{
+    if squared > 1.0 {
+        return 1.0;
+    }
+    root(squared)
+}
+
+fn signed(negative: bool, m: f64) -> f64
+    ensures { λ r. ⌜ r ≡ signedOf negative m ⌝ }
+{
+    if negative { -m } else { m }
+}
+
+// The closure of the crate's split: what it captures is passed in.
+fn bulge_from_chord_length_squared(negative: bool, part: f64, whole: f64, ratio: f64) -> f64
+    ensures { λ r. ⌜ r ≡ partBulge double negative part whole ratio ⌝ }
+{
+    let s = sin_half_sweep(part / whole * ratio);
+    let c = root((1.0 - s) * (1.0 + s));
+    signed(negative, s / (1.0 + c))
+}
+
+fn other_bulge(b: f64, b1: f64) -> f64
+    ensures { λ r. ⌜ r ≡ otherBulge double b b1 ⌝ }
+{
+    (b - b1) / (1.0 + b * b1)
+}
+
+fn diameter_ratio_squared(bulge: f64) -> f64
+    ensures { λ r. ⌜ r ≡ ratioSq double bulge ⌝ }
+{
+    let a = magnitude(bulge);
+    let ratio = 2.0 * a / (a * a + 1.0);
+    ratio * ratio
+}
+
+fn split_at(start: Vector2, b1: f64, point: Vector2, b2: f64) -> SplitResult
+    ensures { λ r. ⌜ r ≡ splitAt start b1 point b2 ⌝ }
+{
+    let updated_start = PlineVertex {
+        x: start.x,
+        y: start.y,
+        bulge: b1,
+    };
+    let split_vertex = PlineVertex {
+        x: point.x,
+        y: point.y,
+        bulge: b2,
+    };
+    SplitResult {
+        updated_start,
+        split_vertex,
+    }
+}
+
+// The two bulges, the smaller chord's first.
+fn split_chords(v1: PlineVertex, p: Vector2, whole: f64, chord1: f64, chord2: f64) -> SplitResult
+    ensures { λ r. ⌜ r ≡ splitChords double v1 p whole chord1 chord2 ⌝ }
+{
+    let b = v1.bulge;
+    let start = Vector2 { x: v1.x, y: v1.y };
+    let ratio = diameter_ratio_squared(b);
+    if chord1 <= chord2 {
+        let b1 = bulge_from_chord_length_squared(b < 0.0, chord1, whole, ratio);
+        return split_at(start, b1, p, other_bulge(b, b1));
+    }
+    let b2 = bulge_from_chord_length_squared(b < 0.0, chord2, whole, ratio);
+    split_at(start, other_bulge(b, b2), p, b2)
+}
+
+fn split_arc(v1: PlineVertex, v2: PlineVertex, p: Vector2) -> SplitResult
+    ensures { λ r. ⌜ r ≡ splitArc double v1 v2 p ⌝ }
+{
+    let whole = chord(v1, v2).length_squared();
+    let chord1 = p.sub(v1.pos()).length_squared();
+    let chord2 = v2.pos().sub(p).length_squared();
+    split_chords(v1, p, whole, chord1, chord2)
+}
+
+fn split(v1: PlineVertex, v2: PlineVertex, p: Vector2, eps: f64) -> SplitResult
+    ensures { λ r. ⌜ r ≡ splitOf double (double .line) v1 v2 p eps ⌝ }
+{
+    let start = Vector2 { x: v1.x, y: v1.y };
+    let end = Vector2 { x: v2.x, y: v2.y };
+    if v1.bulge_is_zero() {
+        return split_at(start, v1.bulge, p, 0.0);
+    }
+    if start.fuzzy_eq_eps(end, eps) {
+        return split_at(p, 0.0, p, v1.bulge);
+    }
+    if start.fuzzy_eq_eps(p, eps) {
+        return split_at(p, 0.0, p, v1.bulge);
+    }
+    if end.fuzzy_eq_eps(p, eps) {
+        return split_at(start, v1.bulge, end, 0.0);
+    }
+    split_arc(v1, v2, p)
+}
+
+pub fn seg_split_at_point(v1: PlineVertex, v2: PlineVertex, p: Vector2, eps: f64) -> SplitAnswer
+    ensures { λ r. ⌜ splitReply r ≡ segSplit double (double .line) v1 v2 p eps ⌝ }
+{
+    if !seg_in_range(v1, v2) {
+        return SplitAnswer::Refused(BAD_NUMBER);
+    }
+    if !point_in_range(p) {
+        return SplitAnswer::Refused(BAD_NUMBER);
+    }
+    if !tol_in_range(eps) {
+        return SplitAnswer::Refused(BAD_TOLERANCE);
+    }
+    SplitAnswer::Given(split(v1, v2, p, eps))
+}
