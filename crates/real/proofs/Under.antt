@@ -2,7 +2,7 @@
 use mathlib.Core.Path.{_≡_, refl, sym, ap, _∙_, subst}
 use Prim.Native.Nat.{ℕ, zero, suc, _+_, _-_, _*_, _/_, _%_, _^_, _≤_, _<_}
 use mathlib.Core.Bool.{false}
-use native.Mathlib.Nat.{le-trans, le-of-eq, le-of-lt, lt-of-lt-of-le, lt-of-le-of-lt, not-le-of-lt, lt-irrefl, zero-lt-suc, mul-assoc, mul-left-comm, zero-mul, mul-pos, mul-le-mul-left, mul-le-mul-right, mul-lt-mul-of-pos-right, mod-lt, pow-succ'}
+use native.Mathlib.Nat.{le-trans, le-of-eq, le-of-lt, lt-of-lt-of-le, lt-of-le-of-lt, not-le-of-lt, lt-irrefl, zero-lt-suc, zero-mul, mul-pos, mul-le-mul-left, mul-le-mul-right, mul-lt-mul-of-pos-right, mod-lt, pow-succ'}
 use native.Mathlib.Omega.{arith}
 use lib.Dec.{T}
 use lib.Pow.{pow-add, pow-pos, pow-lt}
@@ -15,7 +15,7 @@ use Rattle.real.specs.Root.{twiceRoot, rootOf}
 use Rattle.real.proofs.Formats.{spare, facts}
 use Rattle.real.proofs.Squares.{near-ge, near-le}
 use Rattle.real.proofs.Floor.{Stands, twice-stands}
-use Rattle.real.proofs.Rounding.{Bounds, round-keeps, root-at}
+use Rattle.real.proofs.Rounding.{round-keeps, root-at}
 
 -- of a number of u units: n * 4 ^ k stands under the root, √n has the format's digits before the point, and the root is finite
 pub record Under (f : Format) (u n k : ℕ) : Type 0 where
@@ -120,7 +120,7 @@ root-ge f u n k q s near = near-ge n q (hid f) near (s .least)
 pub root-le : (f : Format) (u n k q : ℕ) → Under f u n k → Near n q → q ≤ 2 ^ prec f
 root-le f u n k q s near = near-le n q (2 ^ prec f) near (le-of-lt (s .most))
 
-pub rounded-is : (f : Format) (u n k q : ℕ) → Under f u n k → Near n q → rounded f u ≡ units f false q k
+rounded-is : (f : Format) (u n k q : ℕ) → Under f u n k → Near n q → rounded f u ≡ units f false q k
 rounded-is f u n k zero s near = absurd (not-le-of-lt (pow-pos (prec f - 1)) (root-ge f u n k zero s near))
 rounded-is f u n zero (suc q) s near = absurd (lt-irrefl 0 (s .some))
 rounded-is f u n (suc j) (suc q) s near =

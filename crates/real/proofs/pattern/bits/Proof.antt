@@ -1,3 +1,4 @@
+-- A NaN differs from itself, and `toBits` has one pattern for it; of any other x `f64::to_bits` is `toBits`.
 use lib.Ieee.{binary64}
 use Rattle.real.proofs.Values.{no-nan, nan-bits}
 use borrow.Author.Needs.{needs}

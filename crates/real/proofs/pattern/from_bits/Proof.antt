@@ -1,5 +1,6 @@
-use lib.Ieee.{binary64}
+-- A pattern above an infinity's, the sign aside, is a NaN's; of any other `f64::from_bits` is `ofBits`.
 use mathlib.Core.Path.{sym, _∙_}
+use lib.Ieee.{binary64}
 use Rattle.real.proofs.Values.{no-nan-bits, of-nan-bits, zero-by-zero}
 use borrow.Author.Needs.{needs}
 use Rattle.real.proofs.pattern.from_bits.Statement.{statement}

@@ -1,3 +1,4 @@
+-- `ofBits` of a pattern with the sign's bit cleared is the magnitude.
 use mathlib.Core.Path.{sym, ap, _∙_, subst}
 use lib.Dec.{T}
 use lib.Ieee.{binary64, ofBits}

@@ -1,3 +1,4 @@
+-- The zeros and the infinity are their own roots, `root_bits` has the root of every other number above zero, and the rest have none.
 use mathlib.Core.Path.{sym, ap, _∙_, subst}
 use native.Mathlib.Omega.{arith}
 use lib.Dec.{T}

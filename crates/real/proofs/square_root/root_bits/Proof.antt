@@ -4,7 +4,7 @@ use Prim.Native.Nat.{ℕ, _+_, _*_, _/_, _%_, _^_}
 use native.Mathlib.Nat.{mod-lt, zero-lt-suc}
 use native.Mathlib.Omega.{arith}
 use lib.Ieee.{binary64}
-use Rattle.real.specs.Scaled.{Scaled, unitsOf}
+use Rattle.real.specs.Scaled.{Scaled}
 use Rattle.real.proofs.Under.{Under, in-range, under-of, root-le}
 use Rattle.real.proofs.Patterns.{root-pattern}
 use borrow.Author.Needs.{needs}

@@ -1,3 +1,4 @@
+-- The digits are moved up until they are 53, or the leading one is put before them; the exponent says by how much.
 use Prim.Native.Nat.{_%_, _^_}
 use native.Mathlib.Omega.{arith}
 use Rattle.real.proofs.Scale.{lead, scale-low, scale-mid}

@@ -1,4 +1,5 @@
-use Prim.Native.Nat.{ℕ, _-_}
+-- Each turn reads two digits of m and adds one to the root, keeping `Read`; after 7 turns all are read.
+use Prim.Native.Nat.{_-_}
 use mathlib.Core.Logic.{⊎-elim}
 use native.Mathlib.Omega.{arith}
 use Rattle.real.proofs.Squares.{Read, read-none, digit-0, digit-1, read-all}

@@ -1,3 +1,4 @@
+-- The root of the first 14 digits, then by `extend` that of the first 28, then that of all 54.
 use Prim.Native.Nat.{_/_, _^_}
 use native.Mathlib.Omega.{arith}
 use lib.Dec.{lit≤}
