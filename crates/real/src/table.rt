@@ -2,8 +2,9 @@ ghost use mathlib.Core.Path.{_≡_};
 ghost use Prim.Native.Nat.{_+_, _*_, _^_, _<_};
 ghost use Rattle.real.specs.Root.{isqrt};
 
-// The roots of (32 + i) * 2^23, rounded down.
-const ROOTS: [u64; 97] = [
+// The roots of (32 + i) * 2^23, rounded down. A constant array is written to the stack where it is
+// used, so the entries are narrow, and two are read at once.
+const ROOTS: [u16; 97] = [
     16384,
     16638,
     16888,
@@ -103,9 +104,25 @@ const ROOTS: [u64; 97] = [
     32768,
 ];
 
-pub fn tabled(i: usize) -> u64
-    requires { ⌜ i < 97 ⌝ }
-    ensures { λ r. ⌜ r ≡ isqrt ((32 + i) * 2 ^ 23) ⌝ }
+pub struct Pair {
+    pub a: u64,
+    pub b: u64,
+}
+
+fn wide(x: u16) -> u64
+    ensures { λ r. ⌜ r ≡ x ⌝ }
 {
-    ROOTS[i]
+    x as u64
+}
+
+// The roots of (32 + i) * 2^23 and of the next such number.
+pub fn tabled(i: usize) -> Pair
+    requires { ⌜ i < 96 ⌝ }
+    ensures { λ r. ⌜ r .a ≡ isqrt ((32 + i) * 2 ^ 23) ⌝ ∗ ⌜ r .b ≡ isqrt ((32 + (i + 1)) * 2 ^ 23) ⌝ }
+{
+    let t = ROOTS;
+    Pair {
+        a: wide(t[i]),
+        b: wide(t[i + 1]),
+    }
 }

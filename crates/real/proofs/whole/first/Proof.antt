@@ -12,26 +12,21 @@ use Rattle.real.proofs.whole.first.Tie as tie
 entry : (i j a : ℕ) → a ≡ isqrt ((32 + j) * 2 ^ 23) → 32 + j ≡ i → Floor (i * 2 ^ 23) a
 entry i j a e h = subst (λ (z : ℕ). Floor (z * 2 ^ 23) a) h (subst (λ (z : ℕ). Floor ((32 + j) * 2 ^ 23) z) (sym e) (isqrt-floor ((32 + j) * 2 ^ 23)))
 
-between : (c : tie.After-tabled2) → Chord (c .before .before .args .n) (c .before .before .args .n % 2 ^ 21) (c .before .tabled .result) (c .tabled2 .result)
+between : (c : tie.After-tabled) → Chord (c .before .args .n) (c .before .args .n % 2 ^ 21) (c .tabled .result .a) (c .tabled .result .b)
 between c =
-    let n = c .before .before .args .n in
+    let n = c .before .args .n in
     let i = n / 2 ^ 21 in
-    let pre = c .before .before .pre in
-    chord n i (c .before .tabled .result) (c .tabled2 .result) refl (pre .0) (pre .1)
-    (entry i (i - 32) (c .before .tabled .result) (c .before .tabled .ensures) (omega arith))
-    (entry (suc i) (i - 32 + 1) (c .tabled2 .result) (c .tabled2 .ensures) (omega arith))
+    let r = c .tabled .result in
+    let pre = c .before .pre in
+    chord n i (r .a) (r .b) refl (pre .0) (pre .1)
+    (entry i (i - 32) (r .a) (c .tabled .ensures .0) (omega arith))
+    (entry (suc i) (i - 32 + 1) (r .b) (c .tabled .ensures .1) (omega arith))
 
 sub-i : tie.Need-sub-i
 sub-i c = search needs
 
 tabled-requires : tie.Need-tabled-requires
 tabled-requires c κs = search needs
-
-add-tabled : tie.Need-add-tabled
-add-tabled c = search needs
-
-tabled-requires-2 : tie.Need-tabled-requires-2
-tabled-requires-2 c κs = search needs
 
 sub-s : tie.Need-sub-s
 sub-s c = search needs
@@ -54,17 +49,17 @@ sub-r c = let h = between c in omega arith
 mul-if1 : tie.Need-mul-if1
 mul-if1 c = let h = between c in omega arith
 
-add-t15 : tie.Need-add-t15
-add-t15 c = search needs
+add-t16 : tie.Need-add-t16
+add-t16 c = search needs
 
-mul-t16 : tie.Need-mul-t16
-mul-t16 c = search needs
-
-sub-t17 : tie.Need-sub-t17
-sub-t17 c = search needs
+mul-t17 : tie.Need-mul-t17
+mul-t17 c = search needs
 
 sub-t18 : tie.Need-sub-t18
 sub-t18 c = search needs
+
+sub-t19 : tie.Need-sub-t19
+sub-t19 c = search needs
 
 returns : tie.Need-returns
 returns c = let h = between (c .before) in one-more _ _ (h .low) (h .high) (c .if1 .taken)
@@ -78,8 +73,6 @@ first-spec =
     (tie.spec
     sub-i
     tabled-requires
-    add-tabled
-    tabled-requires-2
     sub-s
     mul-s
     mul-s-2
@@ -87,9 +80,9 @@ first-spec =
     mul-r
     sub-r
     mul-if1
-    add-t15
-    mul-t16
-    sub-t17
+    add-t16
+    mul-t17
     sub-t18
+    sub-t19
     returns
     returns-2)
