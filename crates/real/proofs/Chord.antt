@@ -1,5 +1,5 @@
 -- The root along the chord between two roots of a table, of i * 4 * d and (i + 1) * 4 * d: it is right or one too small.
-use mathlib.Core.Path.{_≡_, refl, sym, ap, ap₂, _∙_, subst}
+use mathlib.Core.Path.{_≡_, sym, ap, _∙_, subst}
 use Prim.Native.Nat.{ℕ, suc, _+_, _-_, _*_, _/_, _%_, _^_, _≤_, _<_}
 use native.Mathlib.Nat.{add-le-add, le-of-suc-le-suc, le-of-lt, le-trans, le-of-eq, lt-of-not-le, le-dest, mul-le-mul, mul-le-mul-left, mul-le-mul-right}
 use native.Mathlib.Decide.{decLe}
@@ -18,29 +18,25 @@ mean x y = elim (decLe x y) [ yes h ↦ go x y h | no g ↦ let l : y ≤ x = om
     go : (x y : ℕ) → x ≤ y → 4 * (x * y) ≤ (x + y) * (x + y)
     go x y h = let d = le-dest h in subst (λ (z : ℕ). 4 * (x * z) ≤ (x + z) * (x + z)) (d .1) (at x (d .0))
 
--- the square of a mean, and the mean of squares
-spread : (a e x y : ℕ) → (x + y) * (a * a * x + (a + e) * (a + e) * y) ≡ (a * x + (a + e) * y) * (a * x + (a + e) * y) + e * e * (x * y)
-spread a e x y = omega arith
-
 -- ---- the chord, with x + y for d, at i * d + y: its height is (a * x + b * y) / d, twice the root
 
-below : (i a e x y c : ℕ) → a * a ≤ i * (4 * (x + y)) → (a + e) * (a + e) ≤ suc i * (4 * (x + y)) → c ≡ a * x + (a + e) * y → c * c ≤ 4 * ((x + y) * (x + y)) * (i * (x + y) + y)
-below i a e x y c h k g =
-    let p : a * a * x ≤ i * (4 * (x + y)) * x = mul-le-mul-right x h in
-    let q : (a + e) * (a + e) * y ≤ suc i * (4 * (x + y)) * y = mul-le-mul-right y k in
-    let r : (x + y) * (a * a * x + (a + e) * (a + e) * y) ≤ (x + y) * (i * (4 * (x + y)) * x + suc i * (4 * (x + y)) * y) = mul-le-mul-left (x + y) (add-le-add p q) in
+abbrev height : ℕ → ℕ → ℕ → ℕ → ℕ
+height a e x y = a * x + (a + e) * y
+
+-- the mean of squares, and the square of the mean
+spread : (a e x y : ℕ) → (x + y) * (a * a * x + (a + e) * (a + e) * y) ≡ height a e x y * height a e x y + e * e * (x * y)
+spread a e x y = omega arith
+
+below : (i a e x y : ℕ) → a * a ≤ i * (4 * (x + y)) → (a + e) * (a + e) ≤ suc i * (4 * (x + y)) → height a e x y * height a e x y ≤ 4 * ((x + y) * (x + y)) * (i * (x + y) + y)
+below i a e x y h k =
+    let r : (x + y) * (a * a * x + (a + e) * (a + e) * y) ≤ (x + y) * (i * (4 * (x + y)) * x + suc i * (4 * (x + y)) * y) = mul-le-mul-left (x + y) (add-le-add (mul-le-mul-right x h) (mul-le-mul-right y k)) in
     let s = spread a e x y in
-    let v : c * c ≡ (a * x + (a + e) * y) * (a * x + (a + e) * y) = ap (λ (z : ℕ). z * z) g in
     omega arith
 
-over : (i a e x y c : ℕ) → i * (4 * (x + y)) ≤ a * a + 2 * a → suc i * (4 * (x + y)) ≤ (a + e) * (a + e) + 2 * (a + e) → c ≡ a * x + (a + e) * y → 4 * ((x + y) * (x + y)) * (i * (x + y) + y) ≤ c * c + e * e * (x * y) + 2 * ((x + y) * c)
-over i a e x y c h k g =
-    let p : i * (4 * (x + y)) * x ≤ (a * a + 2 * a) * x = mul-le-mul-right x h in
-    let q : suc i * (4 * (x + y)) * y ≤ ((a + e) * (a + e) + 2 * (a + e)) * y = mul-le-mul-right y k in
-    let r : (x + y) * (i * (4 * (x + y)) * x + suc i * (4 * (x + y)) * y) ≤ (x + y) * ((a * a + 2 * a) * x + ((a + e) * (a + e) + 2 * (a + e)) * y) = mul-le-mul-left (x + y) (add-le-add p q) in
-    let s : c * c + e * e * (x * y) ≡ (x + y) * (a * a * x + (a + e) * (a + e) * y) = ap (λ (z : ℕ). z * z + e * e * (x * y)) g ∙ sym (spread a e x y) in
-    let t : (x + y) * c ≡ (x + y) * (a * x + (a + e) * y) = ap (λ (z : ℕ). (x + y) * z) g in
-    le-trans (le-of-eq left) (le-trans r (le-of-eq (right ∙ sym (ap₂ (λ (v w : ℕ). v + 2 * w) s t))))
+over : (i a e x y : ℕ) → i * (4 * (x + y)) ≤ a * a + 2 * a → suc i * (4 * (x + y)) ≤ (a + e) * (a + e) + 2 * (a + e) → 4 * ((x + y) * (x + y)) * (i * (x + y) + y) ≤ height a e x y * height a e x y + e * e * (x * y) + 2 * ((x + y) * height a e x y)
+over i a e x y h k =
+    let r : (x + y) * (i * (4 * (x + y)) * x + suc i * (4 * (x + y)) * y) ≤ (x + y) * ((a * a + 2 * a) * x + ((a + e) * (a + e) + 2 * (a + e)) * y) = mul-le-mul-left (x + y) (add-le-add (mul-le-mul-right x h) (mul-le-mul-right y k)) in
+    le-trans (le-of-eq left) (le-trans r (le-of-eq (right ∙ ap (λ (v : ℕ). v + 2 * ((x + y) * height a e x y)) (spread a e x y))))
   where
     left : 4 * ((x + y) * (x + y)) * (i * (x + y) + y) ≡ (x + y) * (i * (4 * (x + y)) * x + suc i * (4 * (x + y)) * y)
     left = omega arith
@@ -48,11 +44,11 @@ over i a e x y c h k g =
     right : (x + y) * ((a * a + 2 * a) * x + ((a + e) * (a + e) + 2 * (a + e)) * y) ≡ (x + y) * (a * a * x + (a + e) * (a + e) * y) + 2 * ((x + y) * (a * x + (a + e) * y))
     right = omega arith
 
-above : (i a e x y c : ℕ) → i * (4 * (x + y)) ≤ a * a + 2 * a → suc i * (4 * (x + y)) ≤ (a + e) * (a + e) + 2 * (a + e) → e ≤ 2 ^ 8 → 2 ^ 14 ≤ a → c ≡ a * x + (a + e) * y → 4 * ((x + y) * (x + y)) * (i * (x + y) + y) ≤ (c + 2 * (x + y)) * (c + 2 * (x + y))
-above i a e x y c h k l b g =
+above : (i a e x y : ℕ) → i * (4 * (x + y)) ≤ a * a + 2 * a → suc i * (4 * (x + y)) ≤ (a + e) * (a + e) + 2 * (a + e) → e ≤ 2 ^ 8 → 2 ^ 14 ≤ a → 4 * ((x + y) * (x + y)) * (i * (x + y) + y) ≤ (height a e x y + 2 * (x + y)) * (height a e x y + 2 * (x + y))
+above i a e x y h k l b =
     let w : e * e * (x * y) ≤ 2 ^ 8 * 2 ^ 8 * (x * y) = mul-le-mul-right (x * y) (mul-le-mul l l) in
-    let u : 2 ^ 14 * (x + y) ≤ c = le-trans (mul-le-mul-right (x + y) b) (le-trans more (le-of-eq (sym g))) in
-    le-trans (over i a e x y c h k g) (sums c (x + y) (e * e * (x * y)) (x * y) w (mean x y) (mul-le-mul-right (x + y) u))
+    let u : 2 ^ 14 * (x + y) ≤ height a e x y = le-trans (mul-le-mul-right (x + y) b) more in
+    le-trans (over i a e x y h k) (sums (height a e x y) (x + y) (e * e * (x * y)) (x * y) w (mean x y) (mul-le-mul-right (x + y) u))
   where
     more : a * (x + y) ≤ a * x + (a + e) * y
     more = omega arith
@@ -96,15 +92,15 @@ at : (i y a e : ℕ) → 32 ≤ i → i < 128 → y < 2 ^ 21 → Floor (i * 2 ^ 
 at i y a e lo hi h f g =
     let x = 2 ^ 21 - y in
     let d : x + y ≡ 2 ^ 21 = omega arith in
-    let c = a * x + (a + e) * y in
+    let c = height a e x y in
     let x-le : x ≤ 2 ^ 21 = omega arith in
     let big = large i a lo f in
     let fl = f .low in
     let gl = g .low in
     let fh = f .high in
     let gh = g .high in
-    let l : c * c ≤ 4 * ((x + y) * (x + y)) * (i * (x + y) + y) = below i a e x y c (rw d fl) (rw d gl) refl in
-    let u : 4 * ((x + y) * (x + y)) * (i * (x + y) + y) ≤ (c + 2 * (x + y)) * (c + 2 * (x + y)) = above i a e x y c (rw d (omega arith)) (rw d (omega arith)) (close i a e big f g) big refl in
+    let l : c * c ≤ 4 * ((x + y) * (x + y)) * (i * (x + y) + y) = below i a e x y (rw d fl) (rw d gl) in
+    let u : 4 * ((x + y) * (x + y)) * (i * (x + y) + y) ≤ (c + 2 * (x + y)) * (c + 2 * (x + y)) = above i a e x y (rw d (omega arith)) (rw d (omega arith)) (close i a e big f g) big in
     record {
       left = mul-le-mul (small i a (le-of-lt hi) f) x-le;
       right = mul-le-mul (small (suc i) (a + e) hi g) (le-of-lt h);
