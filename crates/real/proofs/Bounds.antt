@@ -4,23 +4,32 @@ use mathlib.Core.Path.{_≡_, refl, sym, ap, _∙_, subst}
 use mathlib.Core.Logic.{_⊎_, inl, inr}
 use Prim.Native.Nat.{ℕ, zero, suc, _+_, _-_, _*_, _/_, _^_, _≤_, _<_}
 use mathlib.Core.Bool.{Bool, true, false, not, cond, _&&_, _||_, Bool·beq, true≢false}
-use native.Mathlib.Nat.{le-refl, le-trans, le-of-eq, le-of-lt, lt-of-lt-of-le, mul-comm, mul-assoc, mul-one, one-mul, mul-pos, mul-le-mul, mul-le-mul-left, mul-le-mul-right, mul-mul-mul-comm, mul-right-comm, le-of-mul-le-mul-right, div-mul-le-self}
+use native.Mathlib.Nat.{lt-irrefl, not-le-of-lt, le-trans, le-of-eq, le-of-lt, lt-of-lt-of-le, mul-comm, mul-assoc, mul-one, one-mul, zero-mul, mul-pos, mul-le-mul, mul-le-mul-left, mul-le-mul-right, mul-mul-mul-comm, mul-right-comm, le-of-mul-le-mul-right, div-mul-le-self}
 use native.Mathlib.Omega.{arith}
 use lib.IntN.{ℤ, pos}
 use lib.Dec.{T, ltb, eqb, ltb→lt, nltb→le, eqb→eq}
 use lib.Pow.{pow-add, pow-pos, pow-mono, pow-lt}
 use lib.Ieee.{Float, nan, inf, fin, Format, prec, emax, low, up, down, unlike, odd, units, round, neg, sum, add, sub, mul, div, lt, le}
-use borrow.Author.Tests.{ltb-false}
-use lib.Ieee.Fits.{and-r, down-pos, round-is}
+use borrow.Author.Tests.{ltb-false, ne-eqb}
+use lib.Ieee.Digits.{back}
+use lib.Ieee.Fits.{two, two-le-pos, and-r, down-pos, round-is}
 use lib.Ieee.Exact.{HasValue, round-exact}
 use lib.Ieee.Order.{le-of-values, round-mono}
-use lib.Ieee.Positive.{num, den, den-pos, value→cross, through}
+use lib.Ieee.Positive.{num, den, den-pos, first-pos, value→cross}
 use Rattle.real.specs.Root.{absOf, count, twiceRoot, rootOf}
 use Rattle.real.proofs.Floor.{isqrt-floor}
 
 -- finite, and without a sign
 pub data Plain : Float → Type 0 where
   plain : (m : ℕ) (e : ℤ) → Plain (fin false m e)
+
+pub data Finite : Float → Type 0 where
+  finite : (s : Bool) (m : ℕ) (e : ℤ) → Finite (fin s m e)
+
+-- finite, and not below zero
+pub data Level : Float → Type 0 where
+  signless : {x : Float} → Plain x → Level x
+  nought : (s : Bool) (m : ℕ) (e : ℤ) → m * up e ≡ 0 → Level (fin s m e)
 
 -- x is at most a
 pub record Upto (x : Float) (a : ℕ) : Type 0 where
@@ -92,3 +101,216 @@ past {c = c} (fin true k b) (plain m e) (plain n d) h l r =
 past {c = c} (fin false k b) (plain m e) (plain n d) h l r =
     record { least = above (m * up e) (k * up b) (down e) (down b) c (down-pos b) (ltb-false (m * up e * down b) (k * up b * down e) r) (reached (plain k b) (plain n d) l h .least) }
 
+pub finite-of : (x : Float) → Plain (absOf x) → Finite x
+unfolding absOf
+finite-of (fin s m e) p = finite s m e
+
+-- ---- rounding
+
+-- the format f holds the whole number a, and the fraction 1 / c
+abbrev pub Whole : Format → ℕ → Type 0
+Whole f a = HasValue (round f false a 1) false a 1
+
+abbrev pub Part : Format → ℕ → Type 0
+Part f c = HasValue (round f false 1 c) false 1 c
+
+value-plain : (x : Float) (a c : ℕ) → HasValue x false a c → Plain x
+value-plain nan a c h = absurd h
+value-plain (inf s) a c h = absurd h
+value-plain (fin true m e) a c h = absurd (true≢false (h .0))
+value-plain (fin false m e) a c h = plain m e
+
+odd-signless : (d : ℕ) (s : Bool) (q k l : ℕ) → absOf (odd d s q k l) ≡ odd d false q k l
+unfolding odd absOf
+odd-signless d s zero k l = refl
+odd-signless d s (suc q) k l = refl
+
+units-signless : (f : Format) (s : Bool) (q k : ℕ) → absOf (units f s q k) ≡ units f false q k
+unfolding units
+units-signless f s q k = go (ltb (q * 2 ^ k) (2 ^ (low f + suc (emax f))))
+  where
+    go : (b : Bool) → absOf (cond b (odd (suc (prec f)) s q k (low f)) (inf s)) ≡ cond b (odd (suc (prec f)) false q k (low f)) (inf false)
+    go true = odd-signless (suc (prec f)) s q k (low f)
+    go false = unfold absOf in refl
+
+-- the magnitude of what a fraction rounds to does not turn on the sign
+round-signless : (f : Format) (s : Bool) (n d : ℕ) → absOf (round f s n d) ≡ round f false n d
+round-signless f s n d = ap absOf (round-is f s n d) ∙ units-signless f s _ _ ∙ sym (round-is f false n d)
+
+module _ (f : Format) where
+  pub round-upto : (n d a : ℕ) → Whole f a → 0 < d → n ≤ a * d → Upto (round f false n d) a
+  round-upto n d a w D h =
+      let y = round f false a 1 in
+      let u : Upto y a = record { is = value-plain y a 1 w; most = le-trans (le-of-eq (sym (mul-one (num y)))) (le-of-eq (value→cross y a 1 w)) } in
+      subst (λ (x : Float). Upto x a) (round-signless f false n d)
+      (capped (round f false n d) u (subst (λ (x : Float). T (le x y)) (sym (round-signless f false n d)) (round-mono f n d a 1 D (pow-pos 0) (le-trans (le-of-eq (mul-one n)) h))))
+
+  pub round-from : (n d c : ℕ) → Part f c → 0 < d → 0 < c → d ≤ n * c → Plain (round f false n d) → From (round f false n d) c
+  round-from n d c w D C h p =
+      let y = round f false 1 c in
+      reached p (value-plain y 1 c w) (round-mono f 1 c n d C D (le-trans (le-of-eq (one-mul d)) h))
+      record { least = le-of-eq (sym (value→cross y 1 c w ∙ one-mul (den y))) }
+
+  pub whole-power : (k : ℕ) → k ≤ emax f → Whole f (2 ^ k)
+  whole-power k h =
+      round-exact f false (2 ^ k) 1 1 (k + low f) (pow-pos 0) (pow-lt (two-le-pos (prec f) (two f)))
+      (subst (λ (x : ℕ). x < 2 ^ (low f + suc (emax f))) (sym (one-mul (2 ^ (k + low f)))) (pow-lt (room k (low f) (emax f) h)))
+      (sym (mul-one (1 * 2 ^ (k + low f)) ∙ one-mul (2 ^ (k + low f)) ∙ pow-add 2 k (low f)))
+    where
+      room : (k l e : ℕ) → k ≤ e → k + l < l + suc e
+      room k l e h = omega arith
+
+  pub part-power : (k : ℕ) → k ≤ low f → Part f (2 ^ k)
+  part-power k h =
+      round-exact f false 1 (2 ^ k) 1 (low f - k) (pow-pos k) (pow-lt (two-le-pos (prec f) (two f)))
+      (subst (λ (x : ℕ). x < 2 ^ (low f + suc (emax f))) (sym (one-mul (2 ^ (low f - k)))) (pow-lt (room (low f) k (emax f))))
+      (one-mul (2 ^ low f) ∙ ap (λ (x : ℕ). 2 ^ x) (sym (back (low f) k h)) ∙ pow-add 2 (low f - k) k ∙ ap (λ (x : ℕ). x * 2 ^ k) (sym (one-mul (2 ^ (low f - k)))))
+    where
+      room : (l k e : ℕ) → l - k < l + suc e
+      room l k e = omega arith
+
+  pub whole-zero : Whole f 0
+  whole-zero = round-exact f false 0 1 0 0 (pow-pos 0) (pow-pos (prec f)) (pow-pos (low f + suc (emax f))) (zero-mul (2 ^ low f))
+
+  -- ---- sums
+
+  -- a - b, for b ≤ a
+  sum-down : (a b c : ℕ) → b ≤ a → sum f false a true b c ≡ round f false (a - b) c
+  unfolding sum
+  sum-down a b c h = go (ltb a b) (ltb→lt a b)
+    where
+      go : (t : Bool) → (T t → a < b) → cond t (round f true (b - a) c) (round f false (a - b) c) ≡ round f false (a - b) c
+      go true k = absurd (not-le-of-lt (k tt) h)
+      go false k = refl
+
+  sum-none : (a b c : ℕ) → b ≡ 0 → sum f false a true b c ≡ round f false (a + b) c
+  sum-none a b c z = sum-down a b c (omega arith) ∙ ap (λ (n : ℕ). round f false n c) (let e : a - b ≡ a + b = omega arith in e)
+
+  add-is : {x y : Float} → Plain x → Level y → add f x y ≡ round f false (num x * den y + num y * den x) (den x * den y)
+  unfolding add
+  add-is (plain m e) (signless (plain n d)) = refl
+  add-is (plain m e) (nought false n d z) = refl
+  add-is (plain m e) (nought true n d z) = sum-none (m * up e * down d) (n * up d * down e) (down e * down d) (ap (λ (x : ℕ). x * down e) z ∙ zero-mul (down e))
+
+  pub add-upto : {x y : Float} {a : ℕ} (b : ℕ) → Whole f (a + b) → Upto x a → Level y → num y ≤ b * den y → Upto (add f x y) (a + b)
+  add-upto {x} {y} {a} b w h l k =
+      let i = mul-le-mul-right (den y) (h .most) in
+      let j = mul-le-mul-right (den x) k in
+      rw (add-is (h .is) l) (round-upto (num x * den y + num y * den x) (den x * den y) (a + b) w (mul-pos (den-pos x) (den-pos y)) (omega arith))
+
+  pub add-from : {x y : Float} {c : ℕ} → Part f c → 0 < c → Plain x → Level y → (From x c) ⊎ (From y c) → Plain (add f x y) → From (add f x y) c
+  add-from {x} {y} {c} w C p l h r =
+      rw (add-is p l) (round-from (num x * den y + num y * den x) (den x * den y) c w (mul-pos (den-pos x) (den-pos y)) C (join h) (rw (add-is p l) at r))
+    where
+      join : (From x c) ⊎ (From y c) → den x * den y ≤ (num x * den y + num y * den x) * c
+      join (inl h) = let i = mul-le-mul-right (den y) (h .least) in omega arith
+      join (inr h) = let i = mul-le-mul-right (den x) (h .least) in omega arith
+
+  -- ---- products and quotients
+
+  mul-is : {x y : Float} → Plain x → Plain y → mul f x y ≡ round f false (num x * num y) (den x * den y)
+  unfolding mul
+  mul-is (plain m e) (plain n d) = refl
+
+  pub mul-upto : {x y : Float} {a b : ℕ} → Whole f (a * b) → Upto x a → Upto y b → Upto (mul f x y) (a * b)
+  mul-upto {x} {y} {a} {b} w h k =
+      rw (mul-is (h .is) (k .is)) (round-upto (num x * num y) (den x * den y) (a * b) w (mul-pos (den-pos x) (den-pos y)) (le-trans (mul-le-mul (h .most) (k .most)) (le-of-eq (mul-mul-mul-comm a (den x) b (den y)))))
+
+  pub mul-from : {x y : Float} {c d : ℕ} → Part f (c * d) → 0 < c * d → Plain x → Plain y → From x c → From y d → Plain (mul f x y) → From (mul f x y) (c * d)
+  mul-from {x} {y} {c} {d} w C p q h k r =
+      rw (mul-is p q) (round-from (num x * num y) (den x * den y) (c * d) w (mul-pos (den-pos x) (den-pos y)) C (le-trans (mul-le-mul (h .least) (k .least)) (le-of-eq (mul-mul-mul-comm (num x) c (num y) d))) (rw (mul-is p q) at r))
+
+  -- a number times itself
+  pub square-is : (x : Float) → mul f x x ≡ mul f (absOf x) (absOf x)
+  unfolding mul absOf
+  square-is nan = refl
+  square-is (inf true) = refl
+  square-is (inf false) = refl
+  square-is (fin true m e) = refl
+  square-is (fin false m e) = refl
+
+  div-is : (s : Bool) (m : ℕ) (e : ℤ) {y : Float} → Plain y → 0 < num y → div f (fin s m e) y ≡ round f (unlike s false) (m * up e * den y) (num y * down e)
+  unfolding div
+  div-is s m e (plain n d) h = ap (λ (b : Bool). cond b (cond (eqb m 0) nan (inf (unlike s false))) (round f (unlike s false) (m * up e * down d) (n * up d * down e))) (ne-eqb n 0 some)
+    where
+      some : n ≡ 0 → ⊥
+      some z = lt-irrefl 0 (subst (λ (x : ℕ). 0 < x) (ap (λ (x : ℕ). x * up d) z ∙ zero-mul (up d)) h)
+
+  -- the divisor is at least 1 / c
+  quotient : (m : ℕ) (e : ℤ) (a : ℕ) {y : Float} {c : ℕ} → Whole f (a * c) → m * up e ≤ a * down e → From y c → (0 < num y) × Upto (round f false (m * up e * den y) (num y * down e)) (a * c)
+  quotient m e a {y} {c} w h k =
+      let p : 0 < num y = first-pos (num y) c (lt-of-lt-of-le (den-pos y) (k .least)) in
+      let j = mul-le-mul h (k .least) in
+      (p, round-upto (m * up e * den y) (num y * down e) (a * c) w (mul-pos p (down-pos e)) (omega arith))
+
+  pub div-upto : {x y : Float} {a c : ℕ} → Whole f (a * c) → Upto x a → Plain y → From y c → Upto (div f x y) (a * c)
+  div-upto {y = y} {a = a} {c = c} w h q k = go (h .is) (h .most)
+    where
+      go : {x : Float} → Plain x → num x ≤ a * den x → Upto (div f x y) (a * c)
+      go (plain m e) l = let r = quotient m e a w l k in rw (div-is false m e q (r .0)) (r .1)
+
+  -- a dividend of either sign
+  pub div-size : (x : Float) {y : Float} {a c : ℕ} → Whole f (a * c) → Upto (absOf x) a → Plain y → From y c → Upto (absOf (div f x y)) (a * c)
+  unfolding absOf
+  div-size x {y} {a} {c} w h q k = go (finite-of x (h .is)) (h .most)
+    where
+      go : {x : Float} → Finite x → num (absOf x) ≤ a * den (absOf x) → Upto (absOf (div f x y)) (a * c)
+      go (finite s m e) l =
+          let r = quotient m e a w l k in
+          rw (div-is s m e q (r .0)) (subst (λ (z : Float). Upto z (a * c)) (sym (round-signless f (unlike s false) (m * up e * den y) (num y * down e))) (r .1))
+
+  -- ---- differences
+
+  -- the size of ±a - ±b
+  abbrev gap : Bool → Bool → ℕ → ℕ → ℕ
+  gap s t a b = cond (Bool·beq s t) (a - b + (b - a)) (a + b)
+
+  apart : (p q : Bool) (a b c : ℕ) → absOf (cond (ltb a b) (round f p (b - a) c) (round f q (a - b) c)) ≡ round f false (a - b + (b - a)) c
+  apart p q a b c = go (ltb a b) (ltb→lt a b) (nltb→le a b)
+    where
+      more : (a b : ℕ) → a < b → b - a ≡ a - b + (b - a)
+      more a b h = omega arith
+
+      less : (a b : ℕ) → b ≤ a → a - b ≡ a - b + (b - a)
+      less a b h = omega arith
+
+      go : (t : Bool) → (T t → a < b) → (T (not t) → b ≤ a) → absOf (cond t (round f p (b - a) c) (round f q (a - b) c)) ≡ round f false (a - b + (b - a)) c
+      go true h k = round-signless f p (b - a) c ∙ ap (λ (n : ℕ). round f false n c) (more a b (h tt))
+      go false h k = round-signless f q (a - b) c ∙ ap (λ (n : ℕ). round f false n c) (less a b (k tt))
+
+  sum-size : (s t : Bool) (a b c : ℕ) → absOf (sum f s a (not t) b c) ≡ round f false (gap s t a b) c
+  unfolding sum
+  sum-size true false a b c = round-signless f true (a + b) c
+  sum-size false true a b c = round-signless f false (a + b) c
+  sum-size true true a b c = apart false (ltb b a) a b c
+  sum-size false false a b c = apart true false a b c
+
+  sub-size : (s t : Bool) (m n : ℕ) (e d : ℤ) → absOf (sub f (fin s m e) (fin t n d)) ≡ round f false (gap s t (m * up e * down d) (n * up d * down e)) (down e * down d)
+  unfolding sub
+  sub-size s t m n e d = sum-size s t (m * up e * down d) (n * up d * down e) (down e * down d)
+
+  gap-le : (s t : Bool) (a b : ℕ) → gap s t a b ≤ a + b
+  gap-le true true a b = omega arith
+  gap-le true false a b = omega arith
+  gap-le false true a b = omega arith
+  gap-le false false a b = omega arith
+
+  gap-swap : (s t : Bool) (a b : ℕ) → gap s t a b ≡ gap t s b a
+  gap-swap true true a b = omega arith
+  gap-swap true false a b = omega arith
+  gap-swap false true a b = omega arith
+  gap-swap false false a b = omega arith
+
+  pub sub-upto : (x y : Float) {a b : ℕ} → Whole f (a + b) → Upto (absOf x) a → Upto (absOf y) b → Upto (absOf (sub f x y)) (a + b)
+  unfolding absOf
+  sub-upto x y {a} {b} w h k = go (finite-of x (h .is)) (finite-of y (k .is)) (h .most) (k .most)
+    where
+      go : {x y : Float} → Finite x → Finite y → num (absOf x) ≤ a * den (absOf x) → num (absOf y) ≤ b * den (absOf y) → Upto (absOf (sub f x y)) (a + b)
+      go (finite s m e) (finite t n d) h k =
+          let i = mul-le-mul-right (down d) h in
+          let j = mul-le-mul-right (down e) k in
+          let g = gap-le s t (m * up e * down d) (n * up d * down e) in
+          rw sub-size (round-upto (gap s t (m * up e * down d) (n * up d * down e)) (down e * down d) (a + b) w (mul-pos (down-pos e) (down-pos d)) (le-trans g (omega arith)))
+
+  pub sub-swap : {x y : Float} → Finite x → Finite y → absOf (sub f x y) ≡ absOf (sub f y x)
+  sub-swap (finite s m e) (finite t n d) = sub-size s t m n e d ∙ ap (λ (g : ℕ). round f false g (down e * down d)) (gap-swap s t (m * up e * down d) (n * up d * down e)) ∙ ap (λ (c : ℕ). round f false (gap t s (n * up d * down e) (m * up e * down d)) c) (mul-comm (down e) (down d)) ∙ sym (sub-size t s n m d e)
