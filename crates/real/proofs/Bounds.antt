@@ -2,21 +2,23 @@
 -- The floats are finite and without a sign (`Plain`); of a number with a sign the bound is of its magnitude, `absOf`. Nothing asks that they fit a format.
 use mathlib.Core.Path.{_≡_, refl, sym, ap, _∙_, subst}
 use mathlib.Core.Logic.{_⊎_, inl, inr}
-use Prim.Native.Nat.{ℕ, zero, suc, _+_, _-_, _*_, _/_, _^_, _≤_, _<_}
+use Prim.Native.Nat.{ℕ, zero, suc, _+_, _-_, _*_, _/_, _^_, _≤_, _<_, zero-le}
 use mathlib.Core.Bool.{Bool, true, false, not, cond, _&&_, _||_, Bool·beq, true≢false}
-use native.Mathlib.Nat.{lt-irrefl, not-le-of-lt, le-trans, le-of-eq, le-of-lt, lt-of-lt-of-le, mul-comm, mul-assoc, mul-one, one-mul, zero-mul, mul-pos, mul-le-mul, mul-le-mul-left, mul-le-mul-right, mul-mul-mul-comm, mul-right-comm, le-of-mul-le-mul-right, div-mul-le-self}
+use native.Mathlib.Nat.{lt-irrefl, not-le-of-lt, le-trans, le-of-eq, le-of-lt, lt-of-lt-of-le, mul-comm, mul-assoc, mul-one, one-mul, zero-mul, mul-pos, mul-le-mul, mul-le-mul-left, mul-le-mul-right, mul-mul-mul-comm, mul-left-comm, le-of-mul-le-mul-right, div-mul-le-self}
 use native.Mathlib.Omega.{arith}
 use lib.IntN.{ℤ, pos}
-use lib.Dec.{T, ltb, eqb, ltb→lt, nltb→le, eqb→eq}
+use lib.Dec.{T, T-not, ltb, eqb, ltb→lt, nltb→le, eqb→eq}
+use lib.Arith.{le-zero, lt-of-le-ne}
 use lib.Pow.{pow-add, pow-pos, pow-mono, pow-lt}
 use lib.Ieee.{Float, nan, inf, fin, Format, prec, emax, low, up, down, unlike, odd, units, round, neg, sum, add, sub, mul, div, lt, le}
 use borrow.Author.Tests.{ltb-false, ne-eqb}
 use lib.Ieee.Digits.{back}
-use lib.Ieee.Fits.{two, two-le-pos, and-r, down-pos, round-is}
+use lib.Ieee.Fits.{two, two-le-pos, and-r, eq→eqb, down-pos, round-is}
 use lib.Ieee.Exact.{HasValue, round-exact}
 use lib.Ieee.Order.{le-of-values, round-mono}
 use lib.Ieee.Positive.{num, den, den-pos, first-pos, value→cross}
-use Rattle.real.specs.Root.{absOf, count, twiceRoot, rootOf}
+use Rattle.real.specs.Root.{absOf, count, isqrt, twiceRoot, rootOf}
+use Rattle.real.proofs.Squares.{sq-lt-back}
 use Rattle.real.proofs.Floor.{isqrt-floor}
 
 -- finite, and without a sign
@@ -26,15 +28,20 @@ pub data Plain : Float → Type 0 where
 pub data Finite : Float → Type 0 where
   finite : (s : Bool) (m : ℕ) (e : ℤ) → Finite (fin s m e)
 
--- finite, and not below zero
-pub data Level : Float → Type 0 where
-  signless : {x : Float} → Plain x → Level x
-  nought : (s : Bool) (m : ℕ) (e : ℤ) → m * up e ≡ 0 → Level (fin s m e)
+-- x and y have one sign, or x is a zero
+pub data Alike : Float → Float → Type 0 where
+  alike : (s : Bool) (m n : ℕ) (e d : ℤ) → Alike (fin s m e) (fin s n d)
+  void : (s t : Bool) (m n : ℕ) (e d : ℤ) → m * up e ≡ 0 → Alike (fin s m e) (fin t n d)
 
 -- x is at most a
 pub record Upto (x : Float) (a : ℕ) : Type 0 where
   pub is : Plain x
   pub most : num x ≤ a * den x
+
+-- x is at most a, and not below zero
+pub data Level (a : ℕ) : Float → Type 0 where
+  signless : {x : Float} → Upto x a → Level a x
+  nought : (s : Bool) (m : ℕ) (e : ℤ) → m * up e ≡ 0 → Level a (fin s m e)
 
 -- x is at least 1 / c
 pub record From (x : Float) (c : ℕ) : Type 0 where
@@ -104,6 +111,17 @@ past {c = c} (fin false k b) (plain m e) (plain n d) h l r =
 pub finite-of : (x : Float) → Plain (absOf x) → Finite x
 unfolding absOf
 finite-of (fin s m e) p = finite s m e
+
+nothing : {a : ℕ} (x : Float) → Upto (absOf x) 0 → Level a x
+unfolding absOf
+nothing {a} x u = go (finite-of x (u .is)) (u .most)
+  where
+    go : {x : Float} → Finite x → num (absOf x) ≤ 0 * den (absOf x) → Level a x
+    go (finite s m e) h = nought s m e (le-zero (le-trans h (le-of-eq (zero-mul (down e)))))
+
+level-most : {a : ℕ} {x : Float} → Level a x → num x ≤ a * den x
+level-most (signless u) = u .most
+level-most (nought s m e z) = le-trans (le-of-eq z) zero-le
 
 -- ---- rounding
 
@@ -186,20 +204,23 @@ module _ (f : Format) where
   sum-none : (a b c : ℕ) → b ≡ 0 → sum f false a true b c ≡ round f false (a + b) c
   sum-none a b c z = sum-down a b c (omega arith) ∙ ap (λ (n : ℕ). round f false n c) (let e : a - b ≡ a + b = omega arith in e)
 
-  add-is : {x y : Float} → Plain x → Level y → add f x y ≡ round f false (num x * den y + num y * den x) (den x * den y)
+  add-is : {x y : Float} {b : ℕ} → Plain x → Level b y → add f x y ≡ round f false (num x * den y + num y * den x) (den x * den y)
   unfolding add
-  add-is (plain m e) (signless (plain n d)) = refl
+  add-is (plain m e) (signless u) = go (u .is)
+    where
+      go : {y : Float} → Plain y → add f (fin false m e) y ≡ round f false (m * up e * den y + num y * down e) (down e * den y)
+      go (plain n d) = refl
   add-is (plain m e) (nought false n d z) = refl
   add-is (plain m e) (nought true n d z) = sum-none (m * up e * down d) (n * up d * down e) (down e * down d) (ap (λ (x : ℕ). x * down e) z ∙ zero-mul (down e))
 
-  pub add-upto : {x y : Float} {a : ℕ} (b : ℕ) → Whole f (a + b) → Upto x a → Level y → num y ≤ b * den y → Upto (add f x y) (a + b)
-  add-upto {x} {y} {a} b w h l k =
+  pub add-upto : {x y : Float} {a b : ℕ} → Whole f (a + b) → Upto x a → Level b y → Upto (add f x y) (a + b)
+  add-upto {x} {y} {a} {b} w h l =
       let i = mul-le-mul-right (den y) (h .most) in
-      let j = mul-le-mul-right (den x) k in
+      let j = mul-le-mul-right (den x) (level-most l) in
       rw (add-is (h .is) l) (round-upto (num x * den y + num y * den x) (den x * den y) (a + b) w (mul-pos (den-pos x) (den-pos y)) (omega arith))
 
-  pub add-from : {x y : Float} {c : ℕ} → Part f c → 0 < c → Plain x → Level y → (From x c) ⊎ (From y c) → Plain (add f x y) → From (add f x y) c
-  add-from {x} {y} {c} w C p l h r =
+  pub add-from : {x y : Float} {b c : ℕ} → Part f c → 0 < c → Plain x → Level b y → (From x c) ⊎ (From y c) → Plain (add f x y) → From (add f x y) c
+  add-from {x} {y} {b} {c} w C p l h r =
       rw (add-is p l) (round-from (num x * den y + num y * den x) (den x * den y) c w (mul-pos (den-pos x) (den-pos y)) C (join h) (rw (add-is p l) at r))
     where
       join : (From x c) ⊎ (From y c) → den x * den y ≤ (num x * den y + num y * den x) * c
@@ -314,3 +335,84 @@ module _ (f : Format) where
 
   pub sub-swap : {x y : Float} → Finite x → Finite y → absOf (sub f x y) ≡ absOf (sub f y x)
   sub-swap (finite s m e) (finite t n d) = sub-size s t m n e d ∙ ap (λ (g : ℕ). round f false g (down e * down d)) (gap-swap s t (m * up e * down d) (n * up d * down e)) ∙ ap (λ (c : ℕ). round f false (gap t s (n * up d * down e) (m * up e * down d)) c) (mul-comm (down e) (down d)) ∙ sym (sub-size t s n m d e)
+
+  -- x - y for 0 ≤ y ≤ x
+  pub sub-down : {x y : Float} {a : ℕ} → Whole f a → Upto x a → Plain y → num y * den x ≤ num x * den y → Upto (sub f x y) a
+  unfolding sub
+  sub-down {a = a} w h q l = go (h .is) q (h .most) l
+    where
+      go : {x y : Float} → Plain x → Plain y → num x ≤ a * den x → num y * den x ≤ num x * den y → Upto (sub f x y) a
+      go (plain m e) (plain n d) h l =
+          let i = mul-le-mul-right (down d) h in
+          rw sum-down (round-upto (m * up e * down d - n * up d * down e) (down e * down d) a w (mul-pos (down-pos e) (down-pos d)) (omega arith))
+
+  -- x - y for numbers of one sign
+  gap-alike : (s : Bool) (a b k : ℕ) → a ≤ k → b ≤ k → gap s s a b ≤ k
+  gap-alike true a b k h l = omega arith
+  gap-alike false a b k h l = omega arith
+
+  pub sub-alike : {x y : Float} {a : ℕ} → Whole f a → Alike x y → Upto (absOf x) a → Upto (absOf y) a → Upto (absOf (sub f x y)) a
+  unfolding absOf
+  sub-alike {a = a} w l h k = go l (h .most) (k .most)
+    where
+      at : (s t : Bool) (m n : ℕ) (e d : ℤ) → gap s t (m * up e * down d) (n * up d * down e) ≤ a * (down e * down d) → Upto (absOf (sub f (fin s m e) (fin t n d))) a
+      at s t m n e d g = rw sub-size (round-upto (gap s t (m * up e * down d) (n * up d * down e)) (down e * down d) a w (mul-pos (down-pos e) (down-pos d)) g)
+
+      go : {x y : Float} → Alike x y → num (absOf x) ≤ a * den (absOf x) → num (absOf y) ≤ a * den (absOf y) → Upto (absOf (sub f x y)) a
+      go (alike s m n e d) h k =
+          let i = mul-le-mul-right (down d) h in
+          let j = mul-le-mul-right (down e) k in
+          at s s m n e d (gap-alike s (m * up e * down d) (n * up d * down e) (a * (down e * down d)) (omega arith) (omega arith))
+      go (void s t m n e d z) h k =
+          let i : m * up e * down d ≡ 0 = ap (λ (x : ℕ). x * down d) z ∙ zero-mul (down d) in
+          let j = mul-le-mul-right (down e) k in
+          at s t m n e d (le-trans (gap-le s t (m * up e * down d) (n * up d * down e)) (omega arith))
+
+  -- their product is not below zero
+  pub mul-alike : {x y : Float} {a b : ℕ} → Whole f (a * b) → Alike x y → Upto (absOf x) a → Upto (absOf y) b → Level (a * b) (mul f x y)
+  unfolding absOf mul
+  mul-alike {a = a} {b = b} w l h k = go l (h .most) (k .most)
+    where
+      at : (m n : ℕ) (e d : ℤ) → m * up e ≤ a * down e → n * up d ≤ b * down d → Level (a * b) (round f false (m * up e * (n * up d)) (down e * down d))
+      at m n e d h k = signless (round-upto (m * up e * (n * up d)) (down e * down d) (a * b) w (mul-pos (down-pos e) (down-pos d)) (le-trans (mul-le-mul h k) (le-of-eq (mul-mul-mul-comm a (down e) b (down d)))))
+
+      go : {x y : Float} → Alike x y → num (absOf x) ≤ a * den (absOf x) → num (absOf y) ≤ b * den (absOf y) → Level (a * b) (mul f x y)
+      go (alike true m n e d) h k = at m n e d h k
+      go (alike false m n e d) h k = at m n e d h k
+      go (void s t m n e d z) h k =
+          let r = round f (unlike s t) (m * up e * (n * up d)) (down e * down d) in
+          nothing r
+          (subst (λ (x : Float). Upto x 0) (sym (round-signless f (unlike s t) (m * up e * (n * up d)) (down e * down d)))
+          (round-upto (m * up e * (n * up d)) (down e * down d) 0 whole-zero (mul-pos (down-pos e) (down-pos d)) (le-trans (le-of-eq (ap (λ (x : ℕ). x * (n * up d)) z ∙ zero-mul (n * up d))) zero-le)))
+
+  -- ---- roots
+
+  twice-le : (n k : ℕ) → n ≤ k * k → twiceRoot n ≤ 2 * k
+  unfolding twiceRoot
+  twice-le n k h =
+      let s = isqrt n in
+      let l = isqrt-floor n .low in
+      go (isqrt n) (eqb (s * s) n) (isqrt-floor n .low) (λ t. lt-of-le-ne l (λ e. T-not (eqb (s * s) n) t (eq→eqb e)))
+    where
+      go : (s : ℕ) (b : Bool) → s * s ≤ n → (T (not b) → s * s < n) → 2 * s + cond b 0 1 ≤ 2 * k
+      go s true l z = let g : s < suc k = sq-lt-back s (suc k) (omega arith) in omega arith
+      go s false l z = let i = z tt in let g : s < k = sq-lt-back s k (omega arith) in omega arith
+
+  pub root-upto : {x : Float} (h : ℕ) → Whole f h → Upto x (h * h) → Upto (rootOf f x) h
+  unfolding rootOf
+  root-upto h w u = go (u .is) (u .most)
+    where
+      under : (a d L : ℕ) → 0 < d → a ≤ h * h * d → a * L / d * L ≤ h * L * (h * L)
+      under a d L D l =
+          let q = div-mul-le-self (a * L) d in
+          let i = mul-le-mul-right L l in
+          let j : a * L / d ≤ h * h * L = le-of-mul-le-mul-right (le-trans q (let k : a * L ≤ h * h * L * d = omega arith in k)) D in
+          le-trans (mul-le-mul-right L j) (le-of-eq (let k : h * h * L * L ≡ h * L * (h * L) = omega arith in k))
+
+      go : {x : Float} → Plain x → num x ≤ h * h * den x → Upto (rootOf f x) h
+      go (plain zero e) l = record { is = plain 0 e; most = le-trans (le-of-eq (zero-mul (up e))) zero-le }
+      go (plain (suc m) e) l =
+          let L = 2 ^ low f in
+          let c = count f (fin false (suc m) e) in
+          let n : c * L ≤ h * L * (h * L) = under (suc m * up e) (down e) L (down-pos e) l in
+          round-upto (twiceRoot (c * L)) (2 * L) h w (mul-pos (pow-pos 1) (pow-pos (low f))) (le-trans (twice-le (c * L) (h * L) n) (le-of-eq (mul-left-comm 2 h L)))
