@@ -15,6 +15,7 @@ use borrow.Author.Tests.{ltb-false, ne-eqb}
 use lib.Ieee.Digits.{back}
 use lib.Ieee.Fits.{two, two-le-pos, and-r, eq→eqb, down-pos, round-is}
 use lib.Ieee.Exact.{HasValue, round-exact}
+use lib.Ieee.Back.{round-whole}
 use lib.Ieee.Order.{le-of-values, round-mono}
 use lib.Ieee.Positive.{num, den, den-pos, first-pos, value→cross}
 use Rattle.real.specs.Root.{absOf, count, isqrt, twiceRoot, rootOf}
@@ -82,16 +83,23 @@ capped x {y} {a} u t = let p = plain-of x (u .is) t in record { is = p; most = b
 reached : {x y : Float} {c : ℕ} → Plain x → Plain y → T (le y x) → From y c → From x c
 reached {x} {y} {c} p q t h = record { least = above (num x) (num y) (den x) (den y) c (den-pos y) (crossed q p t) (h .least) }
 
-pub ordered : {x y : Float} → Upto x 1 → Plain y → From y 1 → T (le x y)
-ordered u q h = go (u .is) q (u .most) (h .least)
-  where
-    join : (x p y q : ℕ) → x ≤ 1 * p → q ≤ y * 1 → x * q ≤ y * p
-    join x p y q h k = let i = mul-le-mul h k in omega arith
+-- x ≤ 1 ≤ y
+around : {x y : Float} → Upto x 1 → From y 1 → num x * den y ≤ num y * den x
+around u h = let i = mul-le-mul (u .most) (h .least) in omega arith
 
-    go : {x y : Float} → Plain x → Plain y → num x ≤ 1 * den x → den y ≤ num y * 1 → T (le x y)
-    go (plain m e) (plain n d) h k =
-        le-of-values (fin false m e) (fin false n d) (m * up e) (down e) (n * up d) (down d) (down-pos e) (down-pos d) (refl, refl) (refl, refl)
-        (join (m * up e) (down e) (n * up d) (down d) h k)
+pub ordered : {x y : Float} → Upto x 1 → Plain y → From y 1 → T (le x y)
+ordered {x} {y} u q h = go (u .is) q (around u h)
+  where
+    go : {x y : Float} → Plain x → Plain y → num x * den y ≤ num y * den x → T (le x y)
+    go (plain m e) (plain n d) = le-of-values (fin false m e) (fin false n d) (m * up e) (down e) (n * up d) (down d) (down-pos e) (down-pos d) (refl, refl) (refl, refl)
+
+-- a value that y is not below
+pub not-over : {x y : Float} {a : ℕ} → Upto y a → Plain x → lt y x ≡ false → Upto x a
+unfolding lt
+not-over {a = a} u p r = go p (u .is) (u .most) r
+  where
+    go : {x y : Float} → Plain x → Plain y → num y ≤ a * den y → lt y x ≡ false → Upto x a
+    go (plain m e) (plain n d) h r = record { is = plain m e; most = below (m * up e) (n * up d) (down e) (down d) a (down-pos d) (ltb-false (n * up d * down e) (m * up e * down d) r) h }
 
 -- a value that is not below t, where t is at least y
 pub past : {x y : Float} {c : ℕ} (t : Float) → Plain x → Plain y → From y c → T (le y t) → lt x t ≡ false → From x c
@@ -122,6 +130,44 @@ nothing {a} x u = go (finite-of x (u .is)) (u .most)
 level-most : {a : ℕ} {x : Float} → Level a x → num x ≤ a * den x
 level-most (signless u) = u .most
 level-most (nought s m e z) = le-trans (le-of-eq z) zero-le
+
+-- ---- a magnitude q with the sign of b, by b's comparison with a zero
+
+pub signed-upto : {q : Float} {a : ℕ} (t : Bool) → Upto q a → Upto (absOf (cond t (neg q) q)) a
+unfolding absOf neg
+signed-upto {a = a} t u = go t (u .is) (u .most)
+  where
+    go : {q : Float} (t : Bool) → Plain q → num q ≤ a * den q → Upto (absOf (cond t (neg q) q)) a
+    go true (plain m e) h = record { is = plain m e; most = h }
+    go false (plain m e) h = record { is = plain m e; most = h }
+
+pub signed-alike : {b q z : Float} → Finite b → Plain q → Upto z 0 → Alike b (cond (lt b z) (neg q) q)
+unfolding lt neg
+signed-alike c p u = go c p (u .is) (u .most)
+  where
+    no : (a k r x : ℕ) → k ≤ 0 * r → a < k * x → ⊥
+    no a k r x h l = let i = mul-le-mul-right x h in omega arith
+
+    none : (a r x : ℕ) → 0 < r → a * r + x ≤ 0 → a ≡ 0
+    none a r x R h = let i = mul-le-mul-left a R in omega arith
+
+    plus : (m n : ℕ) (e d : ℤ) (t : Bool) → (T t → ⊥) → Alike (fin false m e) (cond t (fin true n d) (fin false n d))
+    plus m n e d true h = absurd (h tt)
+    plus m n e d false h = alike false m n e d
+
+    minus : (m n : ℕ) (e d : ℤ) (t : Bool) → (T (not t) → m * up e ≡ 0) → Alike (fin true m e) (cond t (fin true n d) (fin false n d))
+    minus m n e d true h = alike true m n e d
+    minus m n e d false h = void true false m n e d (h tt)
+
+    go : {b q z : Float} → Finite b → Plain q → Plain z → num z ≤ 0 * den z → Alike b (cond (lt b z) (neg q) q)
+    go (finite false m e) (plain n d) (plain k r) h =
+        let a = m * up e * down r in
+        let b = k * up r * down e in
+        plus m n e d (ltb a b) (λ t. no a (k * up r) (down r) (down e) h (ltb→lt a b t))
+    go (finite true m e) (plain n d) (plain k r) h =
+        let a = m * up e * down r in
+        let b = k * up r * down e in
+        minus m n e d (ltb 0 (a + b)) (λ t. none (m * up e) (down r) b (down-pos r) (nltb→le 0 (a + b) t))
 
 -- ---- rounding
 
@@ -186,9 +232,6 @@ module _ (f : Format) where
     where
       room : (l k e : ℕ) → l - k < l + suc e
       room l k e = omega arith
-
-  pub whole-zero : Whole f 0
-  whole-zero = round-exact f false 0 1 0 0 (pow-pos 0) (pow-pos (prec f)) (pow-pos (low f + suc (emax f))) (zero-mul (2 ^ low f))
 
   -- ---- sums
 
@@ -336,10 +379,10 @@ module _ (f : Format) where
   pub sub-swap : {x y : Float} → Finite x → Finite y → absOf (sub f x y) ≡ absOf (sub f y x)
   sub-swap (finite s m e) (finite t n d) = sub-size s t m n e d ∙ ap (λ (g : ℕ). round f false g (down e * down d)) (gap-swap s t (m * up e * down d) (n * up d * down e)) ∙ ap (λ (c : ℕ). round f false (gap t s (n * up d * down e) (m * up e * down d)) c) (mul-comm (down e) (down d)) ∙ sym (sub-size t s n m d e)
 
-  -- x - y for 0 ≤ y ≤ x
-  pub sub-down : {x y : Float} {a : ℕ} → Whole f a → Upto x a → Plain y → num y * den x ≤ num x * den y → Upto (sub f x y) a
+  -- x - y for 0 ≤ y ≤ 1 ≤ x
+  pub sub-down : {x y : Float} {a : ℕ} → Whole f a → Upto x a → From x 1 → Upto y 1 → Upto (sub f x y) a
   unfolding sub
-  sub-down {a = a} w h q l = go (h .is) q (h .most) l
+  sub-down {a = a} w h l k = go (h .is) (k .is) (h .most) (around k l)
     where
       go : {x y : Float} → Plain x → Plain y → num x ≤ a * den x → num y * den x ≤ num x * den y → Upto (sub f x y) a
       go (plain m e) (plain n d) h l =
@@ -383,7 +426,7 @@ module _ (f : Format) where
           let r = round f (unlike s t) (m * up e * (n * up d)) (down e * down d) in
           nothing r
           (subst (λ (x : Float). Upto x 0) (sym (round-signless f (unlike s t) (m * up e * (n * up d)) (down e * down d)))
-          (round-upto (m * up e * (n * up d)) (down e * down d) 0 whole-zero (mul-pos (down-pos e) (down-pos d)) (le-trans (le-of-eq (ap (λ (x : ℕ). x * (n * up d)) z ∙ zero-mul (n * up d))) zero-le)))
+          (round-upto (m * up e * (n * up d)) (down e * down d) 0 (round-whole f false 0 zero-le) (mul-pos (down-pos e) (down-pos d)) (le-trans (le-of-eq (ap (λ (x : ℕ). x * (n * up d)) z ∙ zero-mul (n * up d))) zero-le)))
 
   -- ---- roots
 
@@ -398,9 +441,9 @@ module _ (f : Format) where
       go s true l z = let g : s < suc k = sq-lt-back s (suc k) (omega arith) in omega arith
       go s false l z = let i = z tt in let g : s < k = sq-lt-back s k (omega arith) in omega arith
 
-  pub root-upto : {x : Float} (h : ℕ) → Whole f h → Upto x (h * h) → Upto (rootOf f x) h
+  pub root-upto : {x : Float} {a : ℕ} (h : ℕ) → Whole f h → a ≤ h * h → Upto x a → Upto (rootOf f x) h
   unfolding rootOf
-  root-upto h w u = go (u .is) (u .most)
+  root-upto {x} h w k u = go (u .is) (le-trans (u .most) (mul-le-mul-right (den x) k))
     where
       under : (a d L : ℕ) → 0 < d → a ≤ h * h * d → a * L / d * L ≤ h * L * (h * L)
       under a d L D l =
