@@ -2,16 +2,17 @@
 use mathlib.Core.Path.{_≡_, refl, sym, ap, subst}
 use mathlib.Core.Logic.{_⊎_, inl, inr}
 use mathlib.Core.Bool.{Bool, true, false, cond, _&&_}
-use Prim.Native.Nat.{ℕ, _^_, _≤_, _<_}
+use Prim.Native.Nat.{ℕ, _+_, _^_, _≤_}
 use native.Mathlib.Nat.{le-trans}
 use lib.Dec.{T, leb, lit≤, lit<}
 use lib.IntN.{pos, negsuc}
-use lib.Pow.{pow-pos}
+use lib.Pow.{pow-pos, pow-mono}
 use lib.Ieee.{Float, fin, Format, binary32, binary64, emax, low, ofBits, lt, le}
 use lib.Ieee.Bits.{is-true}
 use lib.Ieee.Back.{round-whole}
+use lib.Ieee.Fits.{two as two-digits}
 use Rattle.real.specs.Root.{absOf, rootOf}
-use Rattle.real.proofs.Bounds.{Plain, plain, Finite, Alike, Upto, From, signless, Whole, Part, capped, ordered, not-over, past, finite-of, signed-upto, signed-alike, whole-power, part-power, add-upto, add-from, mul-upto, mul-from, square-is, div-upto, div-size, sub-upto, sub-swap, sub-down, sub-alike, mul-alike, root-upto}
+use Rattle.real.proofs.Bounds.{Plain, plain, Finite, Alike, Upto, From, Level, signless, Whole, Part, capped, ordered, not-over, past, finite-of, signed-upto, signed-alike, whole-power, part-power, add-upto, add-from, mul-upto, mul-from, square-is, div-upto, div-size, sub-upto, sub-swap, sub-down, sub-alike, mul-alike, root-upto}
 use Rattle.plane.specs.Grade.{Grade, Arith, arith, double}
 use Rattle.plane.specs.Vec.{vsubOf, lengthSqOf, vnearOf, nearOf}
 use Rattle.plane.specs.Vertex.{vertexAt, posOf, lineOf}
@@ -72,3 +73,58 @@ module _ (g : Grade) (sound : Sound g) where
   module _ (a : Vector2) (hx : Upto (absOf (a .x)) (2 ^ 21)) (hy : Upto (absOf (a .y)) (2 ^ 21)) where
     length-most : Upto (lengthSqOf g a) (2 ^ 43)
     length-most = add-upto format (whole format 43 tt) (square (a .x) hx) (signless (square (a .y) hy))
+
+    length-least : (From (absOf (a .x)) (2 ^ 27)) ⊎ (From (absOf (a .y)) (2 ^ 27)) → From (lengthSqOf g a) (2 ^ 54)
+    length-least l = add-from format (part format 54 tt) (pow-pos 54) (square (a .x) hx .is) (signless (square (a .y) hy)) (go l) (length-most .is)
+      where
+        grown : (x : Float) → Upto (absOf x) (2 ^ 21) → From (absOf x) (2 ^ 27) → From (x ⊗ x) (2 ^ 54)
+        grown x u h = rw (square-is format x) (mul-from format (part format 54 tt) (pow-pos 54) (u .is) (u .is) h h (rw (square-is format x) at (square x u .is)))
+
+        go : (From (absOf (a .x)) (2 ^ 27)) ⊎ (From (absOf (a .y)) (2 ^ 27)) → (From (a .x ⊗ a .x) (2 ^ 54)) ⊎ (From (a .y ⊗ a .y) (2 ^ 54))
+        go (inl h) = inl (grown (a .x) hx h)
+        go (inr h) = inr (grown (a .y) hy h)
+
+  -- ---- the bulge of a part
+
+  -- 1 + y for a y from 0 to b
+  module _ {y : Float} {b : ℕ} (w : Whole format (1 + b)) (l : Level b y) where
+    more-most : Upto (one ⊕ y) (1 + b)
+    more-most = add-upto format w (sound .one) l
+
+    more-least : From (one ⊕ y) 1
+    more-least = add-from format (part format 0 tt) (pow-pos 0) (sound .one .is) l (inl (sound .one-least)) (more-most .is)
+
+  ratio-most : (b : Float) → Upto (absOf b) 1 → Upto (ratioSq g b) 4
+  unfolding ratioSq
+  ratio-most b u =
+      let a = absOf b in
+      let n : Upto (two ⊗ a) 2 = mul-upto format (whole format 1 tt) (sound .two) u in
+      let s : Upto (a ⊗ a) 1 = mul-upto format (whole format 0 tt) u u in
+      let d : Upto (a ⊗ a ⊕ one) 2 = add-upto format (whole format 1 tt) s (signless (sound .one)) in
+      let k : From (a ⊗ a ⊕ one) 1 = add-from format (part format 0 tt) (pow-pos 0) (s .is) (signless (sound .one)) (inr (sound .one-least)) (d .is) in
+      let r : Upto (two ⊗ a ⊘ (a ⊗ a ⊕ one)) 2 = div-upto format (whole format 1 tt) n (d .is) k in
+      mul-upto format (whole format 2 tt) r r
+
+  sine-most : (x : Float) → Plain x → Upto (halfSine g x) 1
+  sine-most x p = go (lt one x) refl
+    where
+      go : (t : Bool) → lt one x ≡ t → Upto (cond t one (rootOf format x)) 1
+      go true h = sound .one
+      go false h = root-upto format 1 (whole format 0 tt) (lit≤ tt) (not-over (sound .one) p h)
+
+  module _ (chord side ratio : Float) (hc : Upto chord (2 ^ 43)) (lc : From chord (2 ^ 54)) (hs : Upto side (2 ^ 43)) (hr : Upto ratio 4) where
+    part-most : (t : Bool) → (q : Float) × (Upto q 1) × (partBulge g t side chord ratio ≡ signedOf t q)
+    unfolding partBulge
+    part-most t =
+        let s = halfSine g (side ⊘ chord ⊗ ratio) in
+        let S : Upto s 1 = sine-most (side ⊘ chord ⊗ ratio) (mul-upto format (whole format 99 tt) (div-upto format (whole format 97 tt) hs (hc .is) lc) hr .is) in
+        let u : Upto ((one ⊖ s) ⊗ (one ⊕ s)) 2 = mul-upto format (whole format 1 tt) (sub-down format (whole format 0 tt) (sound .one) (sound .one-least) S) (more-most (whole format 1 tt) (signless S)) in
+        let c = rootOf format ((one ⊖ s) ⊗ (one ⊕ s)) in
+        let C : Upto c 2 = root-upto format 2 (whole format 1 tt) (lit≤ tt) u in
+        let three : Whole format 3 = round-whole format false 3 (le-trans (lit≤ tt) (pow-mono (two-digits format))) in
+        (s ⊘ (one ⊕ c), div-upto format (whole format 0 tt) S (more-most three (signless C) .is) (more-least three (signless C)), refl)
+
+  other-most : (b b1 : Float) → Upto (absOf b) 1 → Upto (absOf b1) 1 → Alike b b1 → Upto (absOf (otherBulge g b b1)) 1
+  other-most b b1 h k l =
+      let m = mul-alike format (whole format 0 tt) l h k in
+      div-size format (b ⊖ b1) (whole format 0 tt) (sub-alike format (whole format 0 tt) l h k) (more-most (whole format 1 tt) m .is) (more-least (whole format 1 tt) m)
