@@ -1,7 +1,7 @@
 -- A split never leaves the half circle: of a segment, a point and a tolerance in range, both vertices of the answer are in range.
 use mathlib.Core.Path.{_≡_, refl, sym, ap, subst}
 use mathlib.Core.Logic.{_⊎_, inl, inr}
-use mathlib.Core.Bool.{Bool, true, false, cond, _&&_}
+use mathlib.Core.Bool.{Bool, true, false, cond, _&&_, false≢true}
 use Prim.Native.Nat.{ℕ, _+_, _^_, _≤_}
 use native.Mathlib.Nat.{le-trans}
 use lib.Dec.{T, leb, lit≤, lit<}
@@ -54,6 +54,14 @@ whole f k t = whole-power f k (le-trans (lit≤ t) (room f .0))
 
 part : (f : Format) (k : ℕ) → T (leb k 127) → Part f (2 ^ k)
 part f k t = part-power f k (le-trans (lit≤ t) (room f .1))
+
+and-true : (a b : Bool) → a && b ≡ true → (a ≡ true) × (b ≡ true)
+and-true true b h = (refl, h)
+and-true false b h = absurd (false≢true h)
+
+and-false : (a b : Bool) → a && b ≡ false → (a ≡ false) ⊎ (b ≡ false)
+and-false true b h = inr h
+and-false false b h = inl refl
 
 module _ (g : Grade) (sound : Sound g) where
   open Arith (arith g) using (_⊕_, _⊖_, _⊗_, _⊘_)
@@ -128,3 +136,31 @@ module _ (g : Grade) (sound : Sound g) where
   other-most b b1 h k l =
       let m = mul-alike format (whole format 0 tt) l h k in
       div-size format (b ⊖ b1) (whole format 0 tt) (sub-alike format (whole format 0 tt) l h k) (more-most (whole format 1 tt) m .is) (more-least (whole format 1 tt) m)
+
+  -- ---- the split
+
+  bulge-most : (b : Float) → bulgeOk g b ≡ true → Upto (absOf b) 1
+  unfolding bulgeOk
+  bulge-most b h = capped b (sound .one) (subst T (sym h) tt)
+
+  bulge-ok : (b : Float) → Upto (absOf b) 1 → bulgeOk g b ≡ true
+  unfolding bulgeOk
+  bulge-ok b u = is-true (le (absOf b) one) (ordered u (sound .one .is) (sound .one-least))
+
+  vertex-parts : (v : PlineVertex) → vertexOk g v ≡ true → (pointOk g (posOf v) ≡ true) × (Upto (absOf (v .bulge)) 1)
+  unfolding pointOk vertexOk
+  vertex-parts v h =
+      let a = and-true (coordOk g (v .x)) (coordOk g (v .y) && bulgeOk g (v .bulge)) h in
+      let b = and-true (coordOk g (v .y)) (bulgeOk g (v .bulge)) (a .1) in
+      (simp (a .0, b .0), bulge-most (v .bulge) (b .1))
+
+  placed : (p : Vector2) (b : Float) → pointOk g p ≡ true → Upto (absOf b) 1 → vertexOk g (vertexAt (p .x) (p .y) b) ≡ true
+  unfolding pointOk vertexOk
+  placed p b h u = let a = and-true (coordOk g (p .x)) (coordOk g (p .y)) h in simp (a .0, a .1, bulge-ok b u)
+
+  leg : (p q : Vector2) → pointOk g p ≡ true → pointOk g q ≡ true → (Upto (absOf (p .x ⊖ q .x)) (2 ^ 21)) × (Upto (absOf (p .y ⊖ q .y)) (2 ^ 21))
+  unfolding pointOk
+  leg p q h k =
+      let a = and-true (coordOk g (p .x)) (coordOk g (p .y)) h in
+      let b = and-true (coordOk g (q .x)) (coordOk g (q .y)) k in
+      (sub-upto format (p .x) (q .x) (whole format 21 tt) (coord (p .x) (a .0)) (coord (q .x) (b .0)), sub-upto format (p .y) (q .y) (whole format 21 tt) (coord (p .y) (a .1)) (coord (q .y) (b .1)))
