@@ -55,6 +55,10 @@ whole f k t = whole-power f k (le-trans (lit≤ t) (room f .0))
 part : (f : Format) (k : ℕ) → T (leb k 127) → Part f (2 ^ k)
 part f k t = part-power f k (le-trans (lit≤ t) (room f .1))
 
+-- both vertices of a split are in range
+abbrev pub InRange : Grade → SplitResult → Type 0
+InRange g r = (vertexOk g (r .«updated_start») ≡ true) × (vertexOk g (r .«split_vertex») ≡ true)
+
 and-true : (a b : Bool) → a && b ≡ true → (a ≡ true) × (b ≡ true)
 and-true true b h = (refl, h)
 and-true false b h = absurd (false≢true h)
@@ -164,3 +168,47 @@ module _ (g : Grade) (sound : Sound g) where
       let a = and-true (coordOk g (p .x)) (coordOk g (p .y)) h in
       let b = and-true (coordOk g (q .x)) (coordOk g (q .y)) k in
       (sub-upto format (p .x) (q .x) (whole format 21 tt) (coord (p .x) (a .0)) (coord (q .x) (b .0)), sub-upto format (p .y) (q .y) (whole format 21 tt) (coord (p .y) (a .1)) (coord (q .y) (b .1)))
+
+  -- two places that are not fuzzily equal have a coordinate in which they differ by the least tolerance or more
+  apart : (p q : Vector2) (eps : Float) → pointOk g p ≡ true → pointOk g q ≡ true → tolOk g eps ≡ true → vnearOf g p q eps ≡ false → (From (absOf (q .x ⊖ p .x)) (2 ^ 27)) ⊎ (From (absOf (q .y ⊖ p .y)) (2 ^ 27))
+  unfolding pointOk tolOk
+  apart p q eps h k l n =
+      let a = and-true (coordOk g (p .x)) (coordOk g (p .y)) h in
+      let b = and-true (coordOk g (q .x)) (coordOk g (q .y)) k in
+      let u = leg p q h k in
+      elim (and-false (nearOf g (p .x) (q .x) eps) (nearOf g (p .y) (q .y) eps) n) [
+        | inl r ↦ inl (far (p .x) (q .x) (a .0) (b .0) (u .0 .is) r)
+        | inr r ↦ inr (far (p .y) (q .y) (a .1) (b .1) (u .1 .is) r)
+      ]
+    where
+      far : (x y : Float) → coordOk g x ≡ true → coordOk g y ≡ true → Plain (absOf (x ⊖ y)) → nearOf g x y eps ≡ false → From (absOf (y ⊖ x)) (2 ^ 27)
+      far x y h k p r =
+          subst (λ (z : Float). From z (2 ^ 27)) (sub-swap format (finite-of x (coord x h .is)) (finite-of y (coord y k .is)))
+          (past eps p (sound .tol) (sound .tol-least) (subst T (sym (and-true (le (g .leastTol) eps) (le eps (g .mostTol)) l .0)) tt) r)
+
+  module _ (v1 : PlineVertex) (p : Vector2) (hv : vertexOk g v1 ≡ true) (hp : pointOk g p ≡ true) where
+    chords-in-range : (chord c1 c2 : Float) → Upto chord (2 ^ 43) → From chord (2 ^ 54) → Upto c1 (2 ^ 43) → Upto c2 (2 ^ 43) → InRange g (splitChords g v1 p chord c1 c2)
+    unfolding splitChords
+    chords-in-range chord c1 c2 u l h k = go (le c1 c2)
+      where
+        b : Float
+        b = v1 .bulge
+
+        start : pointOk g (posOf v1) ≡ true
+        start = vertex-parts v1 hv .0
+
+        small : Upto (absOf b) 1
+        small = vertex-parts v1 hv .1
+
+        bulgeBy : Float → Float
+        bulgeBy c = partBulge g (lt b zero) c chord (ratioSq g b)
+
+        both : (c : Float) → Upto c (2 ^ 43) → (Upto (absOf (bulgeBy c)) 1) × (Upto (absOf (otherBulge g b (bulgeBy c))) 1)
+        both c h =
+            let r = part-most chord c (ratioSq g b) u l h (ratio-most b small) (lt b zero) in
+            let first : Upto (absOf (bulgeBy c)) 1 = rw (r .2) (signed-upto (lt b zero) (r .1)) in
+            (first, other-most b (bulgeBy c) small first (rw (r .2) (signed-alike (finite-of b (small .is)) (r .1 .is) (sound .zero))))
+
+        go : (t : Bool) → InRange g (cond t (splitAt (posOf v1) (bulgeBy c1) p (otherBulge g b (bulgeBy c1))) (splitAt (posOf v1) (otherBulge g b (bulgeBy c2)) p (bulgeBy c2)))
+        go true = let r = both c1 h in (placed (posOf v1) (bulgeBy c1) start (r .0), placed p (otherBulge g b (bulgeBy c1)) hp (r .1))
+        go false = let r = both c2 k in (placed (posOf v1) (otherBulge g b (bulgeBy c2)) start (r .1), placed p (bulgeBy c2) hp (r .0))
