@@ -3,12 +3,13 @@ use mathlib.Core.Path.{_≡_, refl, sym, ap, subst}
 use mathlib.Core.Logic.{_⊎_, inl, inr}
 use mathlib.Core.Bool.{Bool, true, false, cond, _&&_, false≢true}
 use Prim.Native.Nat.{ℕ, _+_, _^_, _≤_}
-use native.Mathlib.Nat.{le-trans}
+use native.Mathlib.Nat.{le-trans, mul-le-mul-right}
 use lib.Dec.{T, leb, lit≤, lit<}
 use lib.IntN.{pos, negsuc}
 use lib.Pow.{pow-pos, pow-mono}
 use lib.Ieee.{Float, fin, Format, binary32, binary64, emax, low, ofBits, lt, le}
 use lib.Ieee.Bits.{is-true}
+use lib.Ieee.Positive.{den}
 use lib.Ieee.Back.{round-whole}
 use lib.Ieee.Fits.{two as two-digits}
 use Rattle.real.specs.Root.{absOf, rootOf}
@@ -66,6 +67,10 @@ and-true false b h = absurd (false≢true h)
 and-false : (a b : Bool) → a && b ≡ false → (a ≡ false) ⊎ (b ≡ false)
 and-false true b h = inr h
 and-false false b h = inl refl
+
+either : {A : Type 0} (P : A → Type 0) (t : Bool) {x y : A} → P x → (t ≡ false → P y) → P (cond t x y)
+either P true h k = h
+either P false h k = k refl
 
 module _ (g : Grade) (sound : Sound g) where
   open Arith (arith g) using (_⊕_, _⊖_, _⊗_, _⊘_)
@@ -212,3 +217,55 @@ module _ (g : Grade) (sound : Sound g) where
         go : (t : Bool) → InRange g (cond t (splitAt (posOf v1) (bulgeBy c1) p (otherBulge g b (bulgeBy c1))) (splitAt (posOf v1) (otherBulge g b (bulgeBy c2)) p (bulgeBy c2)))
         go true = let r = both c1 h in (placed (posOf v1) (bulgeBy c1) start (r .0), placed p (otherBulge g b (bulgeBy c1)) hp (r .1))
         go false = let r = both c2 k in (placed (posOf v1) (otherBulge g b (bulgeBy c2)) start (r .1), placed p (bulgeBy c2) hp (r .0))
+
+  module _ (limit : Float) (v1 v2 : PlineVertex) (p : Vector2) (eps : Float) (seg : segOk g v1 v2 ≡ true) (point : pointOk g p ≡ true) (tol : tolOk g eps ≡ true) where
+    pub stays-in-range : InRange g (splitOf g limit v1 v2 p eps)
+    unfolding splitOf splitArc segOk
+    stays-in-range =
+        either (InRange g) (lineOf g limit v1) (placed start b startOk small, placed p zero point flat)
+        (λ _. either (InRange g) (vnearOf g start end eps) at-start
+        (λ n. either (InRange g) (vnearOf g start p eps) at-start
+        (λ _. either (InRange g) (vnearOf g end p eps) (placed start b startOk small, placed end zero endOk flat)
+        (λ _. arc n))))
+      where
+        start : Vector2
+        start = posOf v1
+
+        end : Vector2
+        end = posOf v2
+
+        b : Float
+        b = v1 .bulge
+
+        ends : (vertexOk g v1 ≡ true) × (vertexOk g v2 ≡ true)
+        ends = and-true (vertexOk g v1) (vertexOk g v2) seg
+
+        startOk : pointOk g start ≡ true
+        startOk = vertex-parts v1 (ends .0) .0
+
+        endOk : pointOk g end ≡ true
+        endOk = vertex-parts v2 (ends .1) .0
+
+        small : Upto (absOf b) 1
+        small = vertex-parts v1 (ends .0) .1
+
+        flat : Upto (absOf zero) 1
+        flat = let u = signed-upto false (sound .zero) in record { is = u .is; most = le-trans (u .most) (mul-le-mul-right (den (absOf zero)) (lit≤ tt)) }
+
+        at-start : InRange g (splitAt p zero p b)
+        at-start = (placed p zero point flat, placed p b point small)
+
+        arc : vnearOf g start end eps ≡ false → InRange g (splitArc g v1 v2 p)
+        arc n =
+            let c = leg end start endOk startOk in
+            let c1 = leg p start point startOk in
+            let c2 = leg end p endOk point in
+            chords-in-range v1 p (ends .0) point (lengthSqOf g (chordOf g v1 v2)) (lengthSqOf g (vsubOf g p start)) (lengthSqOf g (vsubOf g end p))
+            (length-most (chordOf g v1 v2) (c .0) (c .1))
+            (length-least (chordOf g v1 v2) (c .0) (c .1) (apart start end eps startOk endOk tol n))
+            (length-most (vsubOf g p start) (c1 .0) (c1 .1))
+            (length-most (vsubOf g end p) (c2 .0) (c2 .1))
+
+-- at f64
+pub split-in-range : (limit : Float) (v1 v2 : PlineVertex) (p : Vector2) (eps : Float) → segOk double v1 v2 ≡ true → pointOk double p ≡ true → tolOk double eps ≡ true → InRange double (splitOf double limit v1 v2 p eps)
+split-in-range = stays-in-range double double-sound
