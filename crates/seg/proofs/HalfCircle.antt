@@ -1,50 +1,52 @@
 -- A split never leaves the half circle: of a segment, a point and a tolerance in range, both vertices of the answer are in range.
-use mathlib.Core.Path.{_≡_, refl, sym, ap, subst}
+use mathlib.Core.Path.{_≡_, refl, sym, subst}
 use mathlib.Core.Logic.{_⊎_, inl, inr}
 use mathlib.Core.Bool.{Bool, true, false, cond, _&&_, false≢true}
 use Prim.Native.Nat.{ℕ, _+_, _^_, _≤_}
-use native.Mathlib.Nat.{le-trans, mul-le-mul-right}
-use lib.Dec.{T, leb, lit≤, lit<}
-use lib.IntN.{pos, negsuc}
-use lib.Pow.{pow-pos, pow-mono}
-use lib.Ieee.{Float, fin, Format, binary32, binary64, emax, low, ofBits, lt, le}
+use native.Mathlib.Nat.{le-trans}
+use lib.Dec.{T, leb, lit≤}
+use lib.Pow.{pow-mono}
+use lib.Ieee.{Float, Format, binary32, binary64, emax, low, ofBits, lt, le}
 use lib.Ieee.Bits.{is-true}
-use lib.Ieee.Positive.{den}
-use lib.Ieee.Back.{round-whole}
 use lib.Ieee.Fits.{two as two-digits}
+use lib.Ieee.Back.{round-whole}
 use Rattle.real.specs.Root.{absOf, rootOf}
-use Rattle.real.proofs.Bounds.{Plain, plain, Finite, Alike, Upto, From, Level, signless, Whole, Part, capped, ordered, not-over, past, finite-of, signed-upto, signed-alike, whole-power, part-power, add-upto, add-from, mul-upto, mul-from, square-is, div-upto, div-size, sub-upto, sub-swap, sub-down, sub-alike, mul-alike, root-upto}
+use Rattle.real.proofs.Bounds.{Within, Upto, upto, Level, level, From, from, Alike, weaker, bare, capped, ordered, not-over, past, signed, signed-alike, Whole, whole-power, add-upto, add-from, mul-upto, mul-from, square-is, mul-alike, div-upto, div-within, sub-within, sub-alike, sub-swap, sub-upto, root-upto}
 use Rattle.plane.specs.Grade.{Grade, Arith, arith, double}
-use Rattle.plane.specs.Vec.{vsubOf, lengthSqOf, vnearOf, nearOf}
+use Rattle.plane.specs.Vec.{vsubOf, lengthSqOf, nearOf, vnearOf}
 use Rattle.plane.specs.Vertex.{vertexAt, posOf, lineOf}
 use Rattle.plane.specs.Range.{coordOk, bulgeOk, tolOk, pointOk, vertexOk, segOk}
 use Rattle.plane.specs.declared.vector2.Vector2.{Vector2}
 use Rattle.plane.specs.declared.pline_vertex.PlineVertex.{PlineVertex}
 use Rattle.seg.specs.Arc.{chordOf}
-use Rattle.seg.specs.Split.{halfSine, partBulge, otherBulge, ratioSq, signedOf, splitAt, splitChords, splitArc, splitOf}
+use Rattle.seg.specs.Split.{halfSine, partBulge, otherBulge, ratioSq, signedOf, splitChords, splitArc, splitOf}
 use Rattle.seg.specs.declared.split.SplitResult.{SplitResult}
 
--- what the law uses of a grade's numbers: room enough for no step of a split to overflow or to vanish, in either format
+-- what the law uses of a grade's numbers: with these no step of a split overflows or vanishes, in either format
 pub record Sound (g : Grade) : Type 0 where
-  pub zero : Upto (g .zero) 0
-  pub one : Upto (g .one) 1
-  pub one-least : From (g .one) 1
-  pub two : Upto (g .two) 2
-  pub far : Upto (g .far) (2 ^ 20)
-  pub tol : Plain (g .leastTol)
-  pub tol-least : From (g .leastTol) (2 ^ 27)
+  pub zero : Upto 0 (g .zero)
+  pub one : Upto 1 (g .one)
+  pub one-least : From 0 (g .one)
+  pub two : Upto 2 (g .two)
+  pub far : Upto (2 ^ 20) (g .far)
+  pub tol-least : From 27 (g .leastTol)
 
 pub double-sound : Sound double
 unfolding ofBits
 double-sound = record {
-  zero = record { is = plain _ _; most = lit≤ tt };
-  one = record { is = plain _ _; most = lit≤ tt };
-  one-least = record { least = lit≤ tt };
-  two = record { is = plain _ _; most = lit≤ tt };
-  far = record { is = plain _ _; most = lit≤ tt };
-  tol = plain _ _;
-  tol-least = record { least = lit≤ tt };
+  zero = upto _ _ (lit≤ tt);
+  one = upto _ _ (lit≤ tt);
+  one-least = from _ _ (lit≤ tt);
+  two = upto _ _ (lit≤ tt);
+  far = upto _ _ (lit≤ tt);
+  tol-least = from _ _ (lit≤ tt);
 }
+
+-- both vertices of a split are in range
+abbrev pub InRange : Grade → SplitResult → Type 0
+InRange g r = (vertexOk g (r .«updated_start») ≡ true) × (vertexOk g (r .«split_vertex») ≡ true)
+
+-- ---- what either format has room for
 
 room : (f : Format) → (127 ≤ emax f) × (127 ≤ low f)
 room binary32 = (lit≤ tt, lit≤ tt)
@@ -53,12 +55,13 @@ room binary64 = (lit≤ tt, lit≤ tt)
 whole : (f : Format) (k : ℕ) → T (leb k 127) → Whole f (2 ^ k)
 whole f k t = whole-power f k (le-trans (lit≤ t) (room f .0))
 
-part : (f : Format) (k : ℕ) → T (leb k 127) → Part f (2 ^ k)
-part f k t = part-power f k (le-trans (lit≤ t) (room f .1))
+part : (f : Format) (k : ℕ) → T (leb k 127) → k ≤ low f
+part f k t = le-trans (lit≤ t) (room f .1)
 
--- both vertices of a split are in range
-abbrev pub InRange : Grade → SplitResult → Type 0
-InRange g r = (vertexOk g (r .«updated_start») ≡ true) × (vertexOk g (r .«split_vertex») ≡ true)
+three : (f : Format) → Whole f 3
+three f = round-whole f false 3 (le-trans (lit≤ tt) (pow-mono (two-digits f)))
+
+-- ---- tests
 
 and-true : (a b : Bool) → a && b ≡ true → (a ≡ true) × (b ≡ true)
 and-true true b h = (refl, h)
@@ -75,158 +78,158 @@ either P false h k = k refl
 module _ (g : Grade) (sound : Sound g) where
   open Arith (arith g) using (_⊕_, _⊖_, _⊗_, _⊘_)
   open Grade g using (format, zero, one, two)
+
   infixl 6 _⊕_ _⊖_
   infixl 7 _⊗_ _⊘_
-
   -- ---- squared lengths
 
-  coord : (x : Float) → coordOk g x ≡ true → Upto (absOf x) (2 ^ 20)
-  unfolding coordOk
-  coord x h = capped x (sound .far) (subst T (sym h) tt)
+  square : {x : Float} → Within (2 ^ 21) x → Upto (2 ^ 42) (x ⊗ x)
+  square u = rw (square-is format u) (mul-upto format (whole format 42 tt) (bare u) (bare u))
 
-  square : (x : Float) → Upto (absOf x) (2 ^ 21) → Upto (x ⊗ x) (2 ^ 42)
-  square x u = rw (square-is format x) (mul-upto format (whole format 42 tt) u u)
+  square-least : {x : Float} → Within (2 ^ 21) x → From 27 (absOf x) → From 54 (x ⊗ x)
+  square-least u h = rw (square-is format u) (mul-from format (part format 54 tt) h h (rw (square-is format u) at (square u)))
 
-  module _ (a : Vector2) (hx : Upto (absOf (a .x)) (2 ^ 21)) (hy : Upto (absOf (a .y)) (2 ^ 21)) where
-    length-most : Upto (lengthSqOf g a) (2 ^ 43)
-    length-most = add-upto format (whole format 43 tt) (square (a .x) hx) (signless (square (a .y) hy))
+  module _ (a : Vector2) (h : Within (2 ^ 21) (a .x)) (k : Within (2 ^ 21) (a .y)) where
+    length-most : Upto (2 ^ 43) (lengthSqOf g a)
+    length-most = add-upto format (whole format 43 tt) (square h) (level (square k))
 
-    length-least : (From (absOf (a .x)) (2 ^ 27)) ⊎ (From (absOf (a .y)) (2 ^ 27)) → From (lengthSqOf g a) (2 ^ 54)
-    length-least l = add-from format (part format 54 tt) (pow-pos 54) (square (a .x) hx .is) (signless (square (a .y) hy)) (go l) (length-most .is)
-      where
-        grown : (x : Float) → Upto (absOf x) (2 ^ 21) → From (absOf x) (2 ^ 27) → From (x ⊗ x) (2 ^ 54)
-        grown x u h = rw (square-is format x) (mul-from format (part format 54 tt) (pow-pos 54) (u .is) (u .is) h h (rw (square-is format x) at (square x u .is)))
-
-        go : (From (absOf (a .x)) (2 ^ 27)) ⊎ (From (absOf (a .y)) (2 ^ 27)) → (From (a .x ⊗ a .x) (2 ^ 54)) ⊎ (From (a .y ⊗ a .y) (2 ^ 54))
-        go (inl h) = inl (grown (a .x) hx h)
-        go (inr h) = inr (grown (a .y) hy h)
+    length-least : (From 27 (absOf (a .x))) ⊎ (From 27 (absOf (a .y))) → From 54 (lengthSqOf g a)
+    length-least l = add-from format (whole format 43 tt) (square h) (level (square k)) 54 (part format 54 tt) (elim l [ inl u ↦ inl (square-least h u) | inr u ↦ inr (square-least k u) ])
 
   -- ---- the bulge of a part
 
   -- 1 + y for a y from 0 to b
-  module _ {y : Float} {b : ℕ} (w : Whole format (1 + b)) (l : Level b y) where
-    more-most : Upto (one ⊕ y) (1 + b)
+  module _ {b : ℕ} {y : Float} (w : Whole format (1 + b)) (l : Level b y) where
+    more-most : Upto (1 + b) (one ⊕ y)
     more-most = add-upto format w (sound .one) l
 
-    more-least : From (one ⊕ y) 1
-    more-least = add-from format (part format 0 tt) (pow-pos 0) (sound .one .is) l (inl (sound .one-least)) (more-most .is)
+    more-least : From 0 (one ⊕ y)
+    more-least = add-from format w (sound .one) l 0 (part format 0 tt) (inl (sound .one-least))
 
-  ratio-most : (b : Float) → Upto (absOf b) 1 → Upto (ratioSq g b) 4
+  ratio-most : {b : Float} → Within 1 b → Upto 4 (ratioSq g b)
   unfolding ratioSq
-  ratio-most b u =
+  ratio-most {b} u =
       let a = absOf b in
-      let n : Upto (two ⊗ a) 2 = mul-upto format (whole format 1 tt) (sound .two) u in
-      let s : Upto (a ⊗ a) 1 = mul-upto format (whole format 0 tt) u u in
-      let d : Upto (a ⊗ a ⊕ one) 2 = add-upto format (whole format 1 tt) s (signless (sound .one)) in
-      let k : From (a ⊗ a ⊕ one) 1 = add-from format (part format 0 tt) (pow-pos 0) (s .is) (signless (sound .one)) (inr (sound .one-least)) (d .is) in
-      let r : Upto (two ⊗ a ⊘ (a ⊗ a ⊕ one)) 2 = div-upto format (whole format 1 tt) n (d .is) k in
+      let n : Upto 2 (two ⊗ a) = mul-upto format (whole format 1 tt) (sound .two) (bare u) in
+      let s : Upto 1 (a ⊗ a) = mul-upto format (whole format 0 tt) (bare u) (bare u) in
+      let d : From 0 (a ⊗ a ⊕ one) = add-from format (whole format 1 tt) s (level (sound .one)) 0 (part format 0 tt) (inr (sound .one-least)) in
+      let r : Upto 2 (two ⊗ a ⊘ (a ⊗ a ⊕ one)) = div-upto format d (whole format 1 tt) n in
       mul-upto format (whole format 2 tt) r r
 
-  sine-most : (x : Float) → Plain x → Upto (halfSine g x) 1
-  sine-most x p = go (lt one x) refl
-    where
-      go : (t : Bool) → lt one x ≡ t → Upto (cond t one (rootOf format x)) 1
-      go true h = sound .one
-      go false h = root-upto format 1 (whole format 0 tt) (lit≤ tt) (not-over (sound .one) p h)
+  sine-most : {a : ℕ} (x : Float) → Upto a x → Upto 1 (halfSine g x)
+  sine-most x u = either (Upto 1) (lt one x) (sound .one) (λ h. root-upto format 1 (whole format 0 tt) (lit≤ tt) (not-over (sound .one) u h))
 
-  module _ (chord side ratio : Float) (hc : Upto chord (2 ^ 43)) (lc : From chord (2 ^ 54)) (hs : Upto side (2 ^ 43)) (hr : Upto ratio 4) where
-    part-most : (t : Bool) → (q : Float) × (Upto q 1) × (partBulge g t side chord ratio ≡ signedOf t q)
-    unfolding partBulge
-    part-most t =
-        let s = halfSine g (side ⊘ chord ⊗ ratio) in
-        let S : Upto s 1 = sine-most (side ⊘ chord ⊗ ratio) (mul-upto format (whole format 99 tt) (div-upto format (whole format 97 tt) hs (hc .is) lc) hr .is) in
-        let u : Upto ((one ⊖ s) ⊗ (one ⊕ s)) 2 = mul-upto format (whole format 1 tt) (sub-down format (whole format 0 tt) (sound .one) (sound .one-least) S) (more-most (whole format 1 tt) (signless S)) in
-        let c = rootOf format ((one ⊖ s) ⊗ (one ⊕ s)) in
-        let C : Upto c 2 = root-upto format 2 (whole format 1 tt) (lit≤ tt) u in
-        let three : Whole format 3 = round-whole format false 3 (le-trans (lit≤ tt) (pow-mono (two-digits format))) in
-        (s ⊘ (one ⊕ c), div-upto format (whole format 0 tt) S (more-most three (signless C) .is) (more-least three (signless C)), refl)
+  -- the magnitude that `partBulge` gives its sign
+  part-most : (t : Bool) (chord side ratio : Float) → From 54 chord → Upto (2 ^ 43) side → Upto 4 ratio → (q : Float) × (Upto 1 q) × (partBulge g t side chord ratio ≡ signedOf t q)
+  unfolding partBulge
+  part-most t chord side ratio l h k =
+      let s = halfSine g (side ⊘ chord ⊗ ratio) in
+      let u : Upto 1 s = sine-most (side ⊘ chord ⊗ ratio) (mul-upto format (whole format 99 tt) (div-upto format l (whole format 97 tt) h) k) in
+      let c = rootOf format ((one ⊖ s) ⊗ (one ⊕ s)) in
+      let v : Upto 2 c = root-upto format 2 (whole format 1 tt) (lit≤ tt) (mul-upto format (whole format 1 tt) (sub-upto format (whole format 0 tt) (sound .one) (sound .one-least) u) (more-most (whole format 1 tt) (level u))) in
+      (s ⊘ (one ⊕ c), div-upto format (more-least (three format) (level v)) (whole format 0 tt) u, refl)
 
-  other-most : (b b1 : Float) → Upto (absOf b) 1 → Upto (absOf b1) 1 → Alike b b1 → Upto (absOf (otherBulge g b b1)) 1
-  other-most b b1 h k l =
-      let m = mul-alike format (whole format 0 tt) l h k in
-      div-size format (b ⊖ b1) (whole format 0 tt) (sub-alike format (whole format 0 tt) l h k) (more-most (whole format 1 tt) m .is) (more-least (whole format 1 tt) m)
+  other-most : {b b1 : Float} → Within 1 b → Within 1 b1 → Alike b b1 → Within 1 (otherBulge g b b1)
+  other-most h k l = div-within format (more-least (whole format 1 tt) (mul-alike format (whole format 0 tt) l h k)) (whole format 0 tt) (sub-alike format (whole format 0 tt) l h k)
 
-  -- ---- the split
+  -- ---- ranges
 
-  bulge-most : (b : Float) → bulgeOk g b ≡ true → Upto (absOf b) 1
+  coord : (x : Float) → coordOk g x ≡ true → Within (2 ^ 20) x
+  unfolding coordOk
+  coord x h = capped x (sound .far) (subst T (sym h) tt)
+
+  bulge-most : (b : Float) → bulgeOk g b ≡ true → Within 1 b
   unfolding bulgeOk
   bulge-most b h = capped b (sound .one) (subst T (sym h) tt)
 
-  bulge-ok : (b : Float) → Upto (absOf b) 1 → bulgeOk g b ≡ true
+  bulge-ok : (b : Float) → Within 1 b → bulgeOk g b ≡ true
   unfolding bulgeOk
-  bulge-ok b u = is-true (le (absOf b) one) (ordered u (sound .one .is) (sound .one-least))
+  bulge-ok b u = is-true (le (absOf b) one) (ordered u (sound .one-least))
 
-  vertex-parts : (v : PlineVertex) → vertexOk g v ≡ true → (pointOk g (posOf v) ≡ true) × (Upto (absOf (v .bulge)) 1)
+  vertex-parts : (v : PlineVertex) → vertexOk g v ≡ true → (pointOk g (posOf v) ≡ true) × (Within 1 (v .bulge))
   unfolding pointOk vertexOk
   vertex-parts v h =
       let a = and-true (coordOk g (v .x)) (coordOk g (v .y) && bulgeOk g (v .bulge)) h in
       let b = and-true (coordOk g (v .y)) (bulgeOk g (v .bulge)) (a .1) in
       (simp (a .0, b .0), bulge-most (v .bulge) (b .1))
 
-  placed : (p : Vector2) (b : Float) → pointOk g p ≡ true → Upto (absOf b) 1 → vertexOk g (vertexAt (p .x) (p .y) b) ≡ true
+  placed : (p : Vector2) (b : Float) → pointOk g p ≡ true → Within 1 b → vertexOk g (vertexAt (p .x) (p .y) b) ≡ true
   unfolding pointOk vertexOk
   placed p b h u = let a = and-true (coordOk g (p .x)) (coordOk g (p .y)) h in simp (a .0, a .1, bulge-ok b u)
 
-  leg : (p q : Vector2) → pointOk g p ≡ true → pointOk g q ≡ true → (Upto (absOf (p .x ⊖ q .x)) (2 ^ 21)) × (Upto (absOf (p .y ⊖ q .y)) (2 ^ 21))
+  point-parts : (p : Vector2) → pointOk g p ≡ true → (Within (2 ^ 20) (p .x)) × (Within (2 ^ 20) (p .y))
   unfolding pointOk
-  leg p q h k =
-      let a = and-true (coordOk g (p .x)) (coordOk g (p .y)) h in
-      let b = and-true (coordOk g (q .x)) (coordOk g (q .y)) k in
-      (sub-upto format (p .x) (q .x) (whole format 21 tt) (coord (p .x) (a .0)) (coord (q .x) (b .0)), sub-upto format (p .y) (q .y) (whole format 21 tt) (coord (p .y) (a .1)) (coord (q .y) (b .1)))
+  point-parts p h = let a = and-true (coordOk g (p .x)) (coordOk g (p .y)) h in (coord (p .x) (a .0), coord (p .y) (a .1))
 
-  -- two places that are not fuzzily equal have a coordinate in which they differ by the least tolerance or more
-  apart : (p q : Vector2) (eps : Float) → pointOk g p ≡ true → pointOk g q ≡ true → tolOk g eps ≡ true → vnearOf g p q eps ≡ false → (From (absOf (q .x ⊖ p .x)) (2 ^ 27)) ⊎ (From (absOf (q .y ⊖ p .y)) (2 ^ 27))
-  unfolding pointOk tolOk
-  apart p q eps h k l n =
-      let a = and-true (coordOk g (p .x)) (coordOk g (p .y)) h in
-      let b = and-true (coordOk g (q .x)) (coordOk g (q .y)) k in
-      let u = leg p q h k in
-      elim (and-false (nearOf g (p .x) (q .x) eps) (nearOf g (p .y) (q .y) eps) n) [
-        | inl r ↦ inl (far (p .x) (q .x) (a .0) (b .0) (u .0 .is) r)
-        | inr r ↦ inr (far (p .y) (q .y) (a .1) (b .1) (u .1 .is) r)
-      ]
-    where
-      far : (x y : Float) → coordOk g x ≡ true → coordOk g y ≡ true → Plain (absOf (x ⊖ y)) → nearOf g x y eps ≡ false → From (absOf (y ⊖ x)) (2 ^ 27)
-      far x y h k p r =
-          subst (λ (z : Float). From z (2 ^ 27)) (sub-swap format (finite-of x (coord x h .is)) (finite-of y (coord y k .is)))
-          (past eps p (sound .tol) (sound .tol-least) (subst T (sym (and-true (le (g .leastTol) eps) (le eps (g .mostTol)) l .0)) tt) r)
+  module _ (p q : Vector2) (h : pointOk g p ≡ true) (k : pointOk g q ≡ true) where
+    side : (Within (2 ^ 21) (p .x ⊖ q .x)) × (Within (2 ^ 21) (p .y ⊖ q .y))
+    side =
+        let a = point-parts p h in
+        let b = point-parts q k in
+        (sub-within format (whole format 21 tt) (a .0) (b .0), sub-within format (whole format 21 tt) (a .1) (b .1))
 
-  module _ (v1 : PlineVertex) (p : Vector2) (hv : vertexOk g v1 ≡ true) (hp : pointOk g p ≡ true) where
-    chords-in-range : (chord c1 c2 : Float) → Upto chord (2 ^ 43) → From chord (2 ^ 54) → Upto c1 (2 ^ 43) → Upto c2 (2 ^ 43) → InRange g (splitChords g v1 p chord c1 c2)
-    unfolding splitChords
-    chords-in-range chord c1 c2 u l h k = go (le c1 c2)
+    side-most : Upto (2 ^ 43) (lengthSqOf g (vsubOf g p q))
+    side-most = length-most (vsubOf g p q) (side .0) (side .1)
+
+    -- two places that are not fuzzily equal differ in a coordinate by the least tolerance or more
+    side-least : (eps : Float) → tolOk g eps ≡ true → vnearOf g q p eps ≡ false → From 54 (lengthSqOf g (vsubOf g p q))
+    unfolding tolOk
+    side-least eps t n =
+        let a = point-parts p h in
+        let b = point-parts q k in
+        length-least (vsubOf g p q) (side .0) (side .1)
+        (elim (and-false (nearOf g (q .x) (p .x) eps) (nearOf g (q .y) (p .y) eps) n) [
+          | inl r ↦ inl (far (a .0) (b .0) r)
+          | inr r ↦ inr (far (a .1) (b .1) r)
+        ])
       where
-        b : Float
-        b = v1 .bulge
+        least : T (le (g .leastTol) eps)
+        least = subst T (sym (and-true (le (g .leastTol) eps) (le eps (g .mostTol)) t .0)) tt
 
-        start : pointOk g (posOf v1) ≡ true
-        start = vertex-parts v1 hv .0
+        far : {x y : Float} → Within (2 ^ 20) x → Within (2 ^ 20) y → nearOf g y x eps ≡ false → From 27 (absOf (x ⊖ y))
+        far u v r = rw (sub-swap format u v) (past eps (bare (sub-within format (whole format 21 tt) v u)) (sound .tol-least) least r)
 
-        small : Upto (absOf b) 1
-        small = vertex-parts v1 hv .1
+  -- ---- the split
 
-        bulgeBy : Float → Float
-        bulgeBy c = partBulge g (lt b zero) c chord (ratioSq g b)
+  chords-in-range : (v1 : PlineVertex) (p : Vector2) (chord c1 c2 : Float) → vertexOk g v1 ≡ true → pointOk g p ≡ true → From 54 chord → Upto (2 ^ 43) c1 → Upto (2 ^ 43) c2 → InRange g (splitChords g v1 p chord c1 c2)
+  unfolding splitChords
+  chords-in-range v1 p chord c1 c2 v h l u1 u2 =
+      let r1 = both c1 u1 in
+      let r2 = both c2 u2 in
+      either (InRange g) (le c1 c2) (placed start (part-of c1) ok (r1 .0), placed p (otherBulge g b (part-of c1)) h (r1 .1))
+      (λ _. (placed start (otherBulge g b (part-of c2)) ok (r2 .1), placed p (part-of c2) h (r2 .0)))
+    where
+      b : Float
+      b = v1 .bulge
 
-        both : (c : Float) → Upto c (2 ^ 43) → (Upto (absOf (bulgeBy c)) 1) × (Upto (absOf (otherBulge g b (bulgeBy c))) 1)
-        both c h =
-            let r = part-most chord c (ratioSq g b) u l h (ratio-most b small) (lt b zero) in
-            let first : Upto (absOf (bulgeBy c)) 1 = rw (r .2) (signed-upto (lt b zero) (r .1)) in
-            (first, other-most b (bulgeBy c) small first (rw (r .2) (signed-alike (finite-of b (small .is)) (r .1 .is) (sound .zero))))
+      start : Vector2
+      start = posOf v1
 
-        go : (t : Bool) → InRange g (cond t (splitAt (posOf v1) (bulgeBy c1) p (otherBulge g b (bulgeBy c1))) (splitAt (posOf v1) (otherBulge g b (bulgeBy c2)) p (bulgeBy c2)))
-        go true = let r = both c1 h in (placed (posOf v1) (bulgeBy c1) start (r .0), placed p (otherBulge g b (bulgeBy c1)) hp (r .1))
-        go false = let r = both c2 k in (placed (posOf v1) (otherBulge g b (bulgeBy c2)) start (r .1), placed p (bulgeBy c2) hp (r .0))
+      ok : pointOk g start ≡ true
+      ok = vertex-parts v1 v .0
+
+      small : Within 1 b
+      small = vertex-parts v1 v .1
+
+      part-of : Float → Float
+      part-of c = partBulge g (lt b zero) c chord (ratioSq g b)
+
+      both : (c : Float) → Upto (2 ^ 43) c → (Within 1 (part-of c)) × (Within 1 (otherBulge g b (part-of c)))
+      both c u =
+          let r = part-most (lt b zero) chord c (ratioSq g b) l u (ratio-most small) in
+          let w : Within 1 (part-of c) = rw (r .2) (signed (lt b zero) (r .1)) in
+          (w, other-most small w (rw (r .2) (signed-alike small (r .1) (sound .zero))))
 
   module _ (limit : Float) (v1 v2 : PlineVertex) (p : Vector2) (eps : Float) (seg : segOk g v1 v2 ≡ true) (point : pointOk g p ≡ true) (tol : tolOk g eps ≡ true) where
     pub stays-in-range : InRange g (splitOf g limit v1 v2 p eps)
     unfolding splitOf splitArc segOk
     stays-in-range =
-        either (InRange g) (lineOf g limit v1) (placed start b startOk small, placed p zero point flat)
-        (λ _. either (InRange g) (vnearOf g start end eps) at-start
-        (λ n. either (InRange g) (vnearOf g start p eps) at-start
-        (λ _. either (InRange g) (vnearOf g end p eps) (placed start b startOk small, placed end zero endOk flat)
-        (λ _. arc n))))
+        either (InRange g) (lineOf g limit v1) (placed start b first small, placed p zero point flat)
+        (λ _. either (InRange g) (vnearOf g start end eps) (placed p zero point flat, placed p b point small)
+        (λ n. either (InRange g) (vnearOf g start p eps) (placed p zero point flat, placed p b point small)
+        (λ _. either (InRange g) (vnearOf g end p eps) (placed start b first small, placed end zero last flat)
+        (λ _. chords-in-range v1 p (lengthSqOf g (chordOf g v1 v2)) (lengthSqOf g (vsubOf g p start)) (lengthSqOf g (vsubOf g end p))
+        (ends .0) point (side-least end start last first eps tol n) (side-most p start point first) (side-most end p last point)))))
       where
         start : Vector2
         start = posOf v1
@@ -240,31 +243,25 @@ module _ (g : Grade) (sound : Sound g) where
         ends : (vertexOk g v1 ≡ true) × (vertexOk g v2 ≡ true)
         ends = and-true (vertexOk g v1) (vertexOk g v2) seg
 
-        startOk : pointOk g start ≡ true
-        startOk = vertex-parts v1 (ends .0) .0
+        first : pointOk g start ≡ true
+        first = vertex-parts v1 (ends .0) .0
 
-        endOk : pointOk g end ≡ true
-        endOk = vertex-parts v2 (ends .1) .0
+        last : pointOk g end ≡ true
+        last = vertex-parts v2 (ends .1) .0
 
-        small : Upto (absOf b) 1
+        small : Within 1 b
         small = vertex-parts v1 (ends .0) .1
 
-        flat : Upto (absOf zero) 1
-        flat = let u = signed-upto false (sound .zero) in record { is = u .is; most = le-trans (u .most) (mul-le-mul-right (den (absOf zero)) (lit≤ tt)) }
+        flat : Within 1 zero
+        flat = weaker (lit≤ tt) (signed false (sound .zero))
 
-        at-start : InRange g (splitAt p zero p b)
-        at-start = (placed p zero point flat, placed p b point small)
-
-        arc : vnearOf g start end eps ≡ false → InRange g (splitArc g v1 v2 p)
-        arc n =
-            let c = leg end start endOk startOk in
-            let c1 = leg p start point startOk in
-            let c2 = leg end p endOk point in
-            chords-in-range v1 p (ends .0) point (lengthSqOf g (chordOf g v1 v2)) (lengthSqOf g (vsubOf g p start)) (lengthSqOf g (vsubOf g end p))
-            (length-most (chordOf g v1 v2) (c .0) (c .1))
-            (length-least (chordOf g v1 v2) (c .0) (c .1) (apart start end eps startOk endOk tol n))
-            (length-most (vsubOf g p start) (c1 .0) (c1 .1))
-            (length-most (vsubOf g end p) (c2 .0) (c2 .1))
+    -- so each part is a segment in range, and may be split again
+    pub parts-in-range : let r = splitOf g limit v1 v2 p eps in (segOk g (r .«updated_start») (r .«split_vertex») ≡ true) × (segOk g (r .«split_vertex») v2 ≡ true)
+    unfolding segOk
+    parts-in-range =
+        let h = stays-in-range in
+        let e = and-true (vertexOk g v1) (vertexOk g v2) seg in
+        (simp (h .0, h .1), simp (h .1, e .1))
 
 -- at f64
 pub split-in-range : (limit : Float) (v1 v2 : PlineVertex) (p : Vector2) (eps : Float) → segOk double v1 v2 ≡ true → pointOk double p ≡ true → tolOk double eps ≡ true → InRange double (splitOf double limit v1 v2 p eps)
