@@ -22,7 +22,7 @@ use Rattle.seg.specs.Arc.{chordOf}
 use Rattle.seg.specs.Split.{halfSine, partBulge, otherBulge, ratioSq, signedOf, splitChords, splitArc, splitOf}
 use Rattle.seg.specs.declared.split.SplitResult.{SplitResult}
 
--- what the law uses of a grade's numbers: with these no step of a split overflows or vanishes, in either format
+-- what the law uses of a grade's numbers: with these nothing in a split overflows, and the squared chord of ends that are apart is not lost, in either format
 pub record Sound (g : Grade) : Type 0 where
   pub zero : Upto 0 (g .zero)
   pub one : Upto 1 (g .one)
