@@ -8,6 +8,18 @@ use oracle::{PlineVertex, PlineViewData, Vector2, segment, view};
 /// The tolerances that the text and document 01 name.
 const NAMED_TOLERANCES: [f64; 4] = [1e-8, 1e-5, 1e-3, 1.0];
 
+/// The k-th of n points round the unit circle, by operations that are exact or rounded alike on every machine.
+pub fn on_circle(k: usize, n: usize) -> Vector2 {
+    let t = (4 * k % n) as f64 / n as f64;
+    let (x, y) = ((1.0 - t * t) / (1.0 + t * t), 2.0 * t / (1.0 + t * t));
+    match 4 * k / n {
+        0 => Vector2::new(x, y),
+        1 => Vector2::new(-y, x),
+        2 => Vector2::new(-x, -y),
+        _ => Vector2::new(y, -x),
+    }
+}
+
 pub struct Generator {
     pub random: Random,
     /// In how many of a hundred places the case at hand is damaged.
@@ -72,7 +84,7 @@ impl Generator {
                 r.signed(x)
             }
             _ => {
-                let x = 10f64.powf(r.between(-12.0, 6.0)).min(1e6);
+                let x = r.magnitude(-40, 20).min(1e6);
                 r.signed(x)
             }
         }
@@ -87,10 +99,10 @@ impl Generator {
             6 => r.pick(&[1.0, 1f64.next_down()]),
             7 => r.ulp(1e-8),
             8 | 9 => {
-                let eighth = (std::f64::consts::PI / 8.0).tan();
-                r.pick(&[0.5, 0.25, eighth, 2.0 - 3f64.sqrt(), 1.0])
+                // Two of them a quarter and a sixth of a circle.
+                r.pick(&[0.5, 0.25, 2f64.sqrt() - 1.0, 2.0 - 3f64.sqrt(), 1.0])
             }
-            10 => 10f64.powf(r.between(-12.0, 0.0)),
+            10 => r.magnitude(-40, 0),
             _ => r.pick(&[f64::from_bits(1), f64::MIN_POSITIVE, 1e-9, 1e-7, 1e-5]),
         };
         r.signed(x)
@@ -119,7 +131,7 @@ impl Generator {
             0 => r.pick(&NAMED_TOLERANCES),
             1 => r.pick(&[1e-8f64.next_up(), 1f64.next_down(), 0.5, 0.25]),
             2 => r.pick(&[1e-8, 1.0]),
-            _ => 10f64.powf(r.between(-8.0, 0.0)).clamp(1e-8, 1.0),
+            _ => r.magnitude(-27, 0).max(1e-8),
         }
     }
 
@@ -203,7 +215,7 @@ impl Generator {
                 moved.y = self.random.ulp(moved.y);
             }
             _ => {
-                let size = 10f64.powf(self.random.between(-10.0, 0.0));
+                let size = self.random.magnitude(-34, 0);
                 moved.x += self.random.between(-size, size);
                 moved.y += self.random.between(-size, size);
             }
@@ -244,7 +256,7 @@ impl Generator {
                 }
             }
             _ => {
-                let size = 10f64.powf(self.random.between(-9.0, 2.0));
+                let size = self.random.magnitude(-30, 7);
                 let dx = self.random.between(-size, size);
                 let dy = self.random.between(-size, size);
                 [x, y, b, x + dx, y + dy, last]
@@ -347,8 +359,8 @@ impl Generator {
                     }
                 }
                 2 => {
-                    let angle = std::f64::consts::TAU * k as f64 / count as f64;
-                    (x, y) = (100.0 * angle.cos(), 100.0 * angle.sin());
+                    let p = on_circle(k, count);
+                    (x, y) = (100.0 * p.x, 100.0 * p.y);
                 }
                 _ => {
                     x += self.random.between(-5.0, 10.0);

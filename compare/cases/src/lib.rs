@@ -9,3 +9,4 @@ pub mod generate;
 pub mod random;
 pub mod rows;
 pub mod sheets;
+pub mod stored;

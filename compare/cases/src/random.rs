@@ -37,6 +37,13 @@ impl Random {
         low + (high - low) * part
     }
 
+    /// A positive float whose power of two lies from `low` up to below `high`, all powers alike.
+    pub fn magnitude(&mut self, low: i32, high: i32) -> f64 {
+        let power = low + self.below((high - low) as usize) as i32;
+        let fraction = self.bits() >> 12;
+        f64::from_bits(((power + 1023) as u64) << 52 | fraction)
+    }
+
     /// Either sign of a number.
     pub fn signed(&mut self, x: f64) -> f64 {
         if self.chance(50) { -x } else { x }

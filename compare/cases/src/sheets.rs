@@ -1,7 +1,7 @@
 //! Whole job sheets, sound and damaged, and the comparison of a program with the oracle's text.
 
 use crate::compare::Report;
-use crate::generate::Generator;
+use crate::generate::{Generator, on_circle};
 use oracle::record::{RECORD_BYTES, encode};
 use oracle::sheet::{LONGEST, sheet_text};
 use oracle::{PlineViewData, view};
@@ -39,9 +39,9 @@ pub fn largest_sheet() -> Vec<u8> {
 pub fn largest_outline() -> Vec<f64> {
     let mut outline = Vec::new();
     for k in 0..1024 {
-        let angle = std::f64::consts::TAU * f64::from(k) / 1024.0;
+        let p = on_circle(k, 1024);
         let bulge = if k % 2 == 0 { 0.0 } else { 0.2 };
-        outline.extend([1000.0 * angle.cos(), 1000.0 * angle.sin(), bulge]);
+        outline.extend([1000.0 * p.x, 1000.0 * p.y, bulge]);
     }
     outline
 }

@@ -162,7 +162,6 @@ impl Library for Spoilt {
         let refusal = Oracle.seg_bounding_box(seg, out);
         if refusal == 0 && self.is(Fault::ZeroLosesItsSign) {
             zero_sign_lost(&mut out[..4]);
-            out[0] += 0.0;
         }
         refusal
     }
