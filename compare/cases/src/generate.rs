@@ -226,7 +226,7 @@ impl Generator {
     // Segments and points beside them.
 
     /// A segment whose numbers are in range, as a rule.
-    fn segment(&mut self, tolerance: f64) -> [f64; 6] {
+    pub fn segment(&mut self, tolerance: f64) -> [f64; 6] {
         let (x, y, b) = (self.coordinate(), self.coordinate(), self.bulge());
         let last = self.bulge();
         match self.random.below(12) {
@@ -266,7 +266,7 @@ impl Generator {
 
     /// A point beside a segment: at its ends, centre and middle, on it, at equal distance from its ends, on the rays
     /// that bound its sweep, at the two ends of its projection, or anywhere.
-    fn point_beside(&mut self, seg: &[f64; 6], tolerance: f64) -> Vector2 {
+    pub fn point_beside(&mut self, seg: &[f64; 6], tolerance: f64) -> Vector2 {
         let start = Vector2::new(seg[0], seg[1]);
         let end = Vector2::new(seg[3], seg[4]);
         let chord = end - start;
@@ -308,7 +308,7 @@ impl Generator {
     }
 
     /// A distance, often just that of the point to a place of the segment.
-    fn distance(&mut self, seg: &[f64; 6], p: Vector2) -> f64 {
+    pub fn distance(&mut self, seg: &[f64; 6], p: Vector2) -> f64 {
         let start = Vector2::new(seg[0], seg[1]);
         let end = Vector2::new(seg[3], seg[4]);
         let (radius, center) =

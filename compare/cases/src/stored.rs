@@ -175,7 +175,7 @@ fn drawn() -> Vec<Case> {
         if call == Call::Sqrt {
             continue;
         }
-        let mut missing = vec![0; 13];
+        let mut missing = [0; 13];
         for refusal in call.refusals() {
             missing[usize::from(*refusal)] = REFUSALS;
         }
