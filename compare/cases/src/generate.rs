@@ -229,7 +229,7 @@ impl Generator {
     pub fn segment(&mut self, tolerance: f64) -> [f64; 6] {
         let (x, y, b) = (self.coordinate(), self.coordinate(), self.bulge());
         let last = self.bulge();
-        match self.random.below(12) {
+        match self.random.below(13) {
             0..=3 => [x, y, b, self.coordinate(), self.coordinate(), last],
             4 => [x, y, b, x, self.coordinate(), last],
             5 => [x, y, b, self.coordinate(), y, last],
@@ -255,6 +255,18 @@ impl Generator {
                     [0.0, from, b, 0.0, r, last]
                 }
             }
+            11 => {
+                // One end straight right, left, above or below the centre, exactly; the box then rests on that end.
+                let b = self.random.pick(&[0.5, 0.25, 0.75, 0.125]);
+                let b = self.random.signed(b);
+                let size = self.random.magnitude(-3, 9);
+                let size = f64::from_bits(size.to_bits() & !0xff);
+                let long = self.random.signed(2.0 * b * size);
+                let short = self.random.signed((b * b - 1.0) * size);
+                let (dx, dy) = self.random.pick(&[(long, short), (short, long)]);
+                let (x, y) = self.random.pick(&[(0.0, 0.0), (0.25, 0.0), (3.0, 0.5)]);
+                [x, y, b, x + dx, y + dy, last]
+            }
             _ => {
                 let size = self.random.magnitude(-30, 7);
                 let dx = self.random.between(-size, size);
@@ -279,7 +291,7 @@ impl Generator {
         } else {
             self.random.between(0.0, 1.0)
         };
-        let p = match self.random.below(13) {
+        let p = match self.random.below(15) {
             0 => start,
             1 => end,
             2 => center,
@@ -301,6 +313,13 @@ impl Generator {
                 let at = if self.random.chance(50) { at } else { 1.0 - at };
                 let away = self.random.pick(&[0.0, 1.0, part]);
                 start + chord.scale(at) + chord.perp().scale(away)
+            }
+            11 | 12 => {
+                // At the edge of the sweep test: off an end's ray by the tolerance.
+                let radius = self.random.pick(&[start, end]) - center;
+                let off = self.random.ulp(tolerance) / radius.length_squared().max(1e-300);
+                let off = self.random.signed(off);
+                center + radius.scale(4.0 * part) + radius.perp().scale(off)
             }
             _ => Vector2::new(self.coordinate(), self.coordinate()),
         };
