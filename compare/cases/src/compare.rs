@@ -4,6 +4,7 @@ use crate::case::{Call, Case, Outcome};
 use crate::generate::Generator;
 use crate::rows::compare_row;
 use oracle::{Library, Oracle};
+use std::collections::BTreeMap;
 
 /// What was compared, and what was found.
 #[derive(Debug, Default)]
@@ -17,6 +18,41 @@ pub struct Report {
     reached: [[u64; 13]; 20],
     /// How often it gave each verdict.
     verdicts: [u64; 8],
+    /// How often each kind of line stood in its sheets.
+    lines: BTreeMap<String, u64>,
+}
+
+/// The kinds of lines that sheets have, the lists aside.
+const LINES: [&str; 16] = [
+    "box",
+    "box none",
+    "outline closed",
+    "outline open",
+    "refused 1",
+    "refused 11",
+    "refused 12",
+    "view 1 hold",
+    "view 2 hold",
+    "view 3 hold",
+    "view 4 hold",
+    "view 5 hold",
+    "view 6 hold",
+    "view 7 cut",
+    "view refused 1",
+    "view refused 4",
+];
+
+/// The kind of a sheet's line; none for a line of a list.
+fn kind_of(line: &str) -> Option<String> {
+    let words: Vec<&str> = line.split(' ').collect();
+    match words[..] {
+        ["outline", _, _, closed] => Some(format!("outline {closed}")),
+        ["box", "none"] | ["refused", _] => Some(line.to_string()),
+        ["box", _, _, _, _] => Some("box".to_string()),
+        ["view", _, "refused", refusal] => Some(format!("view refused {refusal}")),
+        ["view", _, verdict, mark, _] => Some(format!("view {verdict} {mark}")),
+        _ => None,
+    }
 }
 
 impl Report {
@@ -46,8 +82,25 @@ impl Report {
         equal
     }
 
-    /// The refusals, answers and verdicts that document 01 names and no case reached, and those reached that it does
-    /// not name.
+    /// Holds a program's text for a sheet against the oracle's.
+    pub fn judge_sheet(&mut self, sheet: &[u8], expected: &[u8], found: &[u8]) {
+        self.sheets += 1;
+        let text = str::from_utf8(expected).expect("a sheet's text is ASCII");
+        for kind in text.lines().filter_map(kind_of) {
+            *self.lines.entry(kind).or_default() += 1;
+        }
+        if expected != found {
+            let same = expected.iter().zip(found).take_while(|(a, b)| a == b);
+            let place = same.count();
+            let hex: String = sheet.iter().map(|byte| format!("{byte:02x}")).collect();
+            self.differ(&format!(
+                "sheet {hex}: the text differs from byte {place} on"
+            ));
+        }
+    }
+
+    /// The refusals, answers, verdicts and lines that document 01 names and no case reached, and those reached that
+    /// it does not name.
     pub fn gaps(&self) -> Vec<String> {
         let mut gaps = Vec::new();
         for call in Call::ALL {
@@ -62,6 +115,9 @@ impl Report {
             if *times == 0 {
                 gaps.push(format!("verdict {verdict}: never"));
             }
+        }
+        if !self.lines.keys().eq(&LINES) {
+            gaps.push(format!("lines of sheets: {:?}", self.lines));
         }
         gaps
     }
@@ -80,6 +136,10 @@ impl Report {
         table += "verdicts                    ";
         for verdict in 1..8 {
             table += &format!(" {verdict}:{}", self.verdicts[verdict]);
+        }
+        table += "\nlines of sheets\n";
+        for (kind, times) in &self.lines {
+            table += &format!("  {kind:14} {times}\n");
         }
         table
     }

@@ -195,15 +195,6 @@ pub fn compare_sheets(
         } else {
             sheet(&mut generator)
         };
-        report.sheets += 1;
-        let (expected, found) = (sheet_text(&bytes), program(&bytes));
-        if expected != found {
-            let same = expected.iter().zip(&found).take_while(|(a, b)| a == b);
-            let place = same.count();
-            let hex: String = bytes.iter().map(|byte| format!("{byte:02x}")).collect();
-            report.differ(&format!(
-                "sheet {hex}: the text differs from byte {place} on"
-            ));
-        }
+        report.judge_sheet(&bytes, &sheet_text(&bytes), &program(&bytes));
     }
 }

@@ -8,15 +8,9 @@ use oracle::sheet::sheet_text;
 #[test]
 fn every_answer_refusal_and_verdict_is_reached() {
     let mut report = Report::default();
-    let start = std::time::Instant::now();
     compare_calls(&Oracle, 1, 200_000, &mut report);
-    compare_sheets(sheet_text, 2, 300, &mut report);
-    println!(
-        "{}\n{}\n{:?}",
-        report.table(),
-        report.last_line(),
-        start.elapsed()
-    );
+    compare_sheets(sheet_text, 2, 400, &mut report);
+    println!("{}{}", report.table(), report.last_line());
     assert_eq!(report.gaps(), Vec::<String>::new());
     assert_eq!(report.different, 0, "{:?}", report.shown);
 }

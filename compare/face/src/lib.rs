@@ -9,8 +9,7 @@ use std::path::PathBuf;
 /// What each function returns: 0 or a refusal number.
 type Refusal = u8;
 
-// A slice is a pointer and then a length.
-#[link(name = "bisquefern", kind = "static")]
+// The functions of the C face, as the header declares them. A slice is a pointer and then a length.
 unsafe extern "C" {
     fn bf_sqrt(x: f64, out: *mut f64, out_len: usize) -> Refusal;
     fn bf_vertex(numbers: *const f64, numbers_len: usize, out: *mut f64, out_len: usize)
@@ -165,43 +164,25 @@ unsafe extern "C" {
 #[derive(Debug, Clone, Copy)]
 pub struct Bisquefern;
 
-/// Calls a function of the C face. `in` and `out` before a slice give its pointer and length.
-///
-/// Sound for slices: each function reads and writes only the places that the lengths name, asks nothing of their
-/// contents, and keeps no pointer; that is proved of the library.
-macro_rules! call {
-    (@ $function:ident [$($done:tt)*]) => {
-        // SAFETY: as the macro says; every pointer and length comes from one live slice.
-        unsafe { $function($($done)*) }
-    };
-    (@ $function:ident [$($done:tt)*] in $slice:ident $(, $($rest:tt)*)?) => {
-        call!(@ $function [$($done)* $slice.as_ptr(), $slice.len(),] $($($rest)*)?)
-    };
-    (@ $function:ident [$($done:tt)*] out $slice:ident $(, $($rest:tt)*)?) => {
-        call!(@ $function [$($done)* $slice.as_mut_ptr(), $slice.len(),] $($($rest)*)?)
-    };
-    (@ $function:ident [$($done:tt)*] $value:ident $(, $($rest:tt)*)?) => {
-        call!(@ $function [$($done)* $value,] $($($rest)*)?)
-    };
-    ($function:ident $($arguments:tt)*) => {
-        call!(@ $function [] $($arguments)*)
-    };
-}
-
+// SAFETY of every call below: each pointer goes with the length of the live slice that it comes from, and an answer
+// buffer is lent to nothing else. The functions ask nothing of the contents, stay within the lengths and keep no
+// pointer; that is proved of the library.
 impl Library for Bisquefern {
     #[inline]
     fn sqrt(&self, x: f64, out: &mut [f64]) -> u8 {
-        call!(bf_sqrt x, out out)
+        unsafe { bf_sqrt(x, out.as_mut_ptr(), out.len()) }
     }
 
     #[inline]
     fn vertex(&self, numbers: &[f64], out: &mut [f64]) -> u8 {
-        call!(bf_vertex in numbers, out out)
+        unsafe { bf_vertex(numbers.as_ptr(), numbers.len(), out.as_mut_ptr(), out.len()) }
     }
 
     #[inline]
     fn seg_arc_radius_and_center(&self, seg: &[f64], out: &mut [f64]) -> u8 {
-        call!(bf_seg_arc_radius_and_center in seg, out out)
+        unsafe {
+            bf_seg_arc_radius_and_center(seg.as_ptr(), seg.len(), out.as_mut_ptr(), out.len())
+        }
     }
 
     #[inline]
@@ -213,12 +194,22 @@ impl Library for Bisquefern {
         tolerance: f64,
         out: &mut [f64],
     ) -> u8 {
-        call!(bf_seg_split_at_point in seg, x, y, tolerance, out out)
+        unsafe {
+            bf_seg_split_at_point(
+                seg.as_ptr(),
+                seg.len(),
+                x,
+                y,
+                tolerance,
+                out.as_mut_ptr(),
+                out.len(),
+            )
+        }
     }
 
     #[inline]
     fn seg_tangent_vector(&self, seg: &[f64], x: f64, y: f64, out: &mut [f64]) -> u8 {
-        call!(bf_seg_tangent_vector in seg, x, y, out out)
+        unsafe { bf_seg_tangent_vector(seg.as_ptr(), seg.len(), x, y, out.as_mut_ptr(), out.len()) }
     }
 
     #[inline]
@@ -230,7 +221,17 @@ impl Library for Bisquefern {
         tolerance: f64,
         out: &mut [f64],
     ) -> u8 {
-        call!(bf_seg_closest_point in seg, x, y, tolerance, out out)
+        unsafe {
+            bf_seg_closest_point(
+                seg.as_ptr(),
+                seg.len(),
+                x,
+                y,
+                tolerance,
+                out.as_mut_ptr(),
+                out.len(),
+            )
+        }
     }
 
     #[inline]
@@ -243,22 +244,35 @@ impl Library for Bisquefern {
         tolerance: f64,
         out: &mut [u8],
     ) -> u8 {
-        call!(bf_seg_distance_is_greater_than in seg, x, y, distance, tolerance, out out)
+        unsafe {
+            bf_seg_distance_is_greater_than(
+                seg.as_ptr(),
+                seg.len(),
+                x,
+                y,
+                distance,
+                tolerance,
+                out.as_mut_ptr(),
+                out.len(),
+            )
+        }
     }
 
     #[inline]
     fn seg_fast_approx_bounding_box(&self, seg: &[f64], out: &mut [f64]) -> u8 {
-        call!(bf_seg_fast_approx_bounding_box in seg, out out)
+        unsafe {
+            bf_seg_fast_approx_bounding_box(seg.as_ptr(), seg.len(), out.as_mut_ptr(), out.len())
+        }
     }
 
     #[inline]
     fn seg_bounding_box(&self, seg: &[f64], out: &mut [f64]) -> u8 {
-        call!(bf_seg_bounding_box in seg, out out)
+        unsafe { bf_seg_bounding_box(seg.as_ptr(), seg.len(), out.as_mut_ptr(), out.len()) }
     }
 
     #[inline]
     fn seg_midpoint(&self, seg: &[f64], out: &mut [f64]) -> u8 {
-        call!(bf_seg_midpoint in seg, out out)
+        unsafe { bf_seg_midpoint(seg.as_ptr(), seg.len(), out.as_mut_ptr(), out.len()) }
     }
 
     #[inline]
@@ -274,7 +288,22 @@ impl Library for Bisquefern {
         tolerance: f64,
         out: &mut [u8],
     ) -> u8 {
-        call!(bf_view_create in outline, start, x, y, intersect, in vertex, traverse, tolerance, out out)
+        unsafe {
+            bf_view_create(
+                outline.as_ptr(),
+                outline.len(),
+                start,
+                x,
+                y,
+                intersect,
+                vertex.as_ptr(),
+                vertex.len(),
+                traverse,
+                tolerance,
+                out.as_mut_ptr(),
+                out.len(),
+            )
+        }
     }
 
     #[inline]
@@ -288,7 +317,19 @@ impl Library for Bisquefern {
         tolerance: f64,
         out: &mut [u8],
     ) -> u8 {
-        call!(bf_view_from_new_start in outline, closed, x, y, start, tolerance, out out)
+        unsafe {
+            bf_view_from_new_start(
+                outline.as_ptr(),
+                outline.len(),
+                closed,
+                x,
+                y,
+                start,
+                tolerance,
+                out.as_mut_ptr(),
+                out.len(),
+            )
+        }
     }
 
     #[inline]
@@ -299,37 +340,108 @@ impl Library for Bisquefern {
         whole: &mut [u64],
         out: &mut [f64],
     ) -> u8 {
-        call!(bf_view_validate in outline, in record, out whole, out out)
+        unsafe {
+            bf_view_validate(
+                outline.as_ptr(),
+                outline.len(),
+                record.as_ptr(),
+                record.len(),
+                whole.as_mut_ptr(),
+                whole.len(),
+                out.as_mut_ptr(),
+                out.len(),
+            )
+        }
     }
 
     #[inline]
     fn view_mark(&self, outline: &[f64], closed: u8, record: &[u8], out: &mut [u8]) -> u8 {
-        call!(bf_view_mark in outline, closed, in record, out out)
+        unsafe {
+            bf_view_mark(
+                outline.as_ptr(),
+                outline.len(),
+                closed,
+                record.as_ptr(),
+                record.len(),
+                out.as_mut_ptr(),
+                out.len(),
+            )
+        }
     }
 
     #[inline]
     fn view_count(&self, outline: &[f64], record: &[u8], out: &mut [u64]) -> u8 {
-        call!(bf_view_count in outline, in record, out out)
+        unsafe {
+            bf_view_count(
+                outline.as_ptr(),
+                outline.len(),
+                record.as_ptr(),
+                record.len(),
+                out.as_mut_ptr(),
+                out.len(),
+            )
+        }
     }
 
     #[inline]
     fn view_get(&self, outline: &[f64], record: &[u8], position: u64, out: &mut [f64]) -> u8 {
-        call!(bf_view_get in outline, in record, position, out out)
+        unsafe {
+            bf_view_get(
+                outline.as_ptr(),
+                outline.len(),
+                record.as_ptr(),
+                record.len(),
+                position,
+                out.as_mut_ptr(),
+                out.len(),
+            )
+        }
     }
 
     #[inline]
     fn view_list(&self, outline: &[f64], record: &[u8], out: &mut [f64], count: &mut [u64]) -> u8 {
-        call!(bf_view_list in outline, in record, out out, out count)
+        unsafe {
+            bf_view_list(
+                outline.as_ptr(),
+                outline.len(),
+                record.as_ptr(),
+                record.len(),
+                out.as_mut_ptr(),
+                out.len(),
+                count.as_mut_ptr(),
+                count.len(),
+            )
+        }
     }
 
     #[inline]
     fn view_reverse(&self, outline: &[f64], record: &[u8], out: &mut [u8]) -> u8 {
-        call!(bf_view_reverse in outline, in record, out out)
+        unsafe {
+            bf_view_reverse(
+                outline.as_ptr(),
+                outline.len(),
+                record.as_ptr(),
+                record.len(),
+                out.as_mut_ptr(),
+                out.len(),
+            )
+        }
     }
 
     #[inline]
     fn view_trim(&self, outline: &[f64], record: &[u8], i: u64, j: u64, out: &mut [u8]) -> u8 {
-        call!(bf_view_trim in outline, in record, i, j, out out)
+        unsafe {
+            bf_view_trim(
+                outline.as_ptr(),
+                outline.len(),
+                record.as_ptr(),
+                record.len(),
+                i,
+                j,
+                out.as_mut_ptr(),
+                out.len(),
+            )
+        }
     }
 }
 

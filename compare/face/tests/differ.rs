@@ -21,10 +21,17 @@ fn expect_no_difference(report: &Report) {
 }
 
 #[test]
-fn calls() {
+fn calls_and_sheets() {
+    let program = sheet_program();
     let mut report = Report::default();
     for round in 0..rounds() {
         compare_calls(&Bisquefern, 100 + round, 300_000, &mut report);
+        compare_sheets(
+            |bytes| printed(&program, bytes),
+            200 + round,
+            400,
+            &mut report,
+        );
     }
     expect_no_difference(&report);
     assert_eq!(report.gaps(), Vec::<String>::new());
@@ -35,21 +42,6 @@ fn the_stored_list() {
     let mut report = Report::default();
     for case in stored::all() {
         report.judge(&case, &case.run(&Oracle), &case.run(&Bisquefern));
-    }
-    expect_no_difference(&report);
-}
-
-#[test]
-fn sheets() {
-    let program = sheet_program();
-    let mut report = Report::default();
-    for round in 0..rounds() {
-        compare_sheets(
-            |bytes| printed(&program, bytes),
-            200 + round,
-            300,
-            &mut report,
-        );
     }
     expect_no_difference(&report);
 }

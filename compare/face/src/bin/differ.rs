@@ -21,7 +21,7 @@ fn main() -> ExitCode {
     let program = sheet_program();
     compare_sheets(|bytes| printed(&program, bytes), seed, sheets, &mut report);
 
-    println!("{}", report.table());
+    print!("{}", report.table());
     for difference in &report.shown {
         println!("different: {difference}");
     }
