@@ -354,7 +354,8 @@ impl Generator {
 
     /// An outline of `count` vertices in range.
     fn outline_of(&mut self, count: usize) -> Vec<f64> {
-        let kind = self.random.below(4);
+        let kind = self.random.below(5);
+        let (side_x, side_y) = (self.random.signed(1.0), self.random.signed(1.0));
         let mut numbers: Vec<f64> = Vec::with_capacity(3 * count);
         let (mut x, mut y) = (0.0, 0.0);
         for k in 0..count {
@@ -381,12 +382,18 @@ impl Generator {
                     let p = on_circle(k, count);
                     (x, y) = (100.0 * p.x, 100.0 * p.y);
                 }
+                3 => {
+                    // To one side of both zeros.
+                    x = self.random.pick(&[0.0, -0.0, side_x]);
+                    y = self.random.pick(&[0.0, -0.0, side_y]);
+                }
                 _ => {
                     x += self.random.between(-5.0, 10.0);
                     y += self.random.between(-5.0, 5.0);
                 }
             }
-            numbers.extend([x, y, if kind == 1 && k % 3 == 0 { 0.0 } else { b }]);
+            let line = (kind == 1 || kind == 3) && k % 3 != 2;
+            numbers.extend([x, y, if line { 0.0 } else { b }]);
         }
         numbers
     }
@@ -744,7 +751,7 @@ impl Generator {
             self.spoil_number(&mut outline);
         }
         let offset = record.end_index_offset;
-        // A list of this length is never lent: the record is refused before.
+        // An offset past the outline is refused before its list is written, so its room need not be that long.
         let listed = 3 * (offset.min(outline.len()) + 2);
         let case = Case::new(call).numbers(&outline);
         match call {

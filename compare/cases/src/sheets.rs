@@ -8,6 +8,7 @@ use oracle::{PlineViewData, view};
 use std::io::{ErrorKind, Write};
 use std::path::Path;
 use std::process::{Command, Stdio};
+use std::thread;
 
 /// A sound sheet.
 pub fn sheet_of(outline: &[f64], flags: u16, records: &[PlineViewData]) -> Vec<u8> {
@@ -169,16 +170,17 @@ pub fn printed(program: &Path, bytes: &[u8]) -> Vec<u8> {
         .stdout(Stdio::piped())
         .spawn()
         .unwrap_or_else(|error| panic!("{}: {error}", program.display()));
-    // A program may stop reading once it knows its answer.
     let mut input = child.stdin.take().expect("standard input is piped");
-    if let Err(error) = input.write_all(bytes) {
-        assert_eq!(error.kind(), ErrorKind::BrokenPipe, "{error}");
-    }
-    drop(input);
-    let output = child
-        .wait_with_output()
-        .expect("the program can be waited for");
-    output.stdout
+    // Written beside the reading, since a program may print before it has read all.
+    let output = thread::scope(|scope| {
+        scope.spawn(move || match input.write_all(bytes) {
+            // A program may stop reading once it knows its answer.
+            Err(error) if error.kind() != ErrorKind::BrokenPipe => panic!("{error}"),
+            _ => {}
+        });
+        child.wait_with_output()
+    });
+    output.expect("the program can be waited for").stdout
 }
 
 /// Compares some sheets, the largest among them.

@@ -91,7 +91,7 @@ fn corners(aabb: AABB) -> [f64; 4] {
 }
 
 /// A verdict's counts and numbers, unused ones zero.
-pub(crate) fn verdict_values(verdict: &ViewDataValidation<f64>) -> ([u64; 3], [f64; 5]) {
+fn verdict_values(verdict: &ViewDataValidation<f64>) -> ([u64; 3], [f64; 5]) {
     let number = u64::from(view::verdict_number(verdict));
     let none = [0.0; 5];
     match *verdict {
