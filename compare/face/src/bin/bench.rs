@@ -17,7 +17,9 @@ use std::process::{Command, Stdio};
 use std::time::{Duration, Instant};
 
 const CASES: usize = 4096;
-const ROUNDS: usize = 21;
+/// Many short rounds, so that the median leaves out those in which something else ran.
+const ROUNDS: usize = 61;
+const SHEET_ROUNDS: usize = 21;
 
 fn main() {
     println!(
@@ -68,7 +70,7 @@ fn compare(
     let mut ours = |k| ours(k, &mut our_room);
     let mut rust = |k| rust(k, &mut rust_room);
 
-    /// Nanoseconds for one case, over as many passes as take about a millisecond.
+    /// Nanoseconds for one case, over some passes.
     fn time(cases: usize, passes: usize, run: &mut impl FnMut(usize)) -> f64 {
         let start = Instant::now();
         for _ in 0..passes {
@@ -76,9 +78,10 @@ fn compare(
         }
         start.elapsed().as_nanos() as f64 / (cases * passes) as f64
     }
+    /// As many passes as take about half a millisecond.
     fn passes(cases: usize, run: &mut impl FnMut(usize)) -> usize {
         let one = time(cases, 1, run) * cases as f64;
-        (1e6 / one).ceil() as usize
+        (0.5e6 / one).ceil() as usize
     }
 
     let (our_passes, rust_passes) = (passes(cases, &mut ours), passes(cases, &mut rust));
@@ -407,7 +410,7 @@ fn sheets() {
     fs::write(&input, largest_sheet()).expect("the sheet can be written");
     let programs: [PathBuf; 2] = [sheet_program(), rust];
     let mut times = [Vec::new(), Vec::new()];
-    for _ in 0..ROUNDS {
+    for _ in 0..SHEET_ROUNDS {
         for (program, times) in programs.iter().zip(&mut times) {
             times.push(run_time(program, &input).as_nanos() as f64);
         }
