@@ -12,8 +12,8 @@ use Rattle.view.specs.declared.view_data.PlineViewData.{PlineViewData}
 
 -- an index below the vertex count, and steps of at most one round
 pub record Wraps (index steps n : ℕ) : Type 0 where
-  pub index : index < n
-  pub steps : steps ≤ n
+  pub below : index < n
+  pub round : steps ≤ n
   pub few : n ≤ mostVertices
 
 -- a vertex number: what it is, and that it is one
