@@ -20,7 +20,7 @@ use Rattle.view.specs.declared.view_data.PlineViewData.{PlineViewData}
 use Rattle.view.proofs.All.{and-both}
 
 -- one link of a chain: it passed, so its test holds; it refused, and so does the link before any other rest
-check-passed : {b : Bool} (n : ℕ) (rest : Reply (Unit {0})) → pass ≡ check b n rest → (b ≡ true) × (pass ≡ rest)
+check-passed : {A : Type 0} {b : Bool} {a : A} (n : ℕ) (rest : Reply A) → given a ≡ check b n rest → (b ≡ true) × (given a ≡ rest)
 check-passed {b = true} n rest e = (refl, e)
 check-passed {b = false} n rest e = let z : _≡_ {A = ℕ} 0 1 = cc in absurd (omega arith)
 
@@ -43,9 +43,9 @@ module _ (s : List Float) (d : PlineViewData) where
   unfolding placeOf
   place-refused m rest = check-refused (leb (d .«end_index_offset») (countOf s)) m badOffset _ _ (check-refused (ltb (d .«start_index») (countOf s)) m badIndex pass rest (no-refusal m rest))
 
-  pub place-placed : viewable s ≡ true → pass ≡ placeOf s d pass → Placed s d
+  pub place-placed : {A : Type 0} {a : A} (rest : Reply A) → viewable s ≡ true → given a ≡ placeOf s d rest → Placed s d
   unfolding placeOf
-  place-placed v e =
+  place-placed rest v e =
       let a = check-passed badOffset _ e in
       let b = check-passed badIndex _ (a .1) in
       let h = viewable-in s v in
@@ -67,13 +67,13 @@ module _ (g : Grade) (s : List Float) (d : PlineViewData) where
   unfolding checkOf
   checked-refused m rest = check-refused (viewable s) m badOutline _ _ (check-refused (numbersOk g s && recordOk g d) m badNumber _ _ (place-refused s d m rest))
 
-  pub checked : pass ≡ checkOf g s d pass → Checked g s d
+  pub checked : {A : Type 0} {a : A} (rest : Reply A) → given a ≡ checkOf g s d rest → Checked g s d
   unfolding checkOf
-  checked e =
+  checked rest e =
       let a = check-passed badOutline _ e in
       let b = check-passed badNumber _ (a .1) in
       let n = and-both (numbersOk g s) (recordOk g d) (b .0) in
-      record { outline = a .0; numbers = n .0; record-in = n .1; placed = place-placed s d (a .0) (b .1) }
+      record { outline = a .0; numbers = n .0; record-in = n .1; placed = place-placed s d rest (a .0) (b .1) }
 
   pub checked-rest : {A : Type 0} (rest : Reply A) → Checked g s d → checkOf g s d rest ≡ rest
   unfolding checkOf

@@ -21,7 +21,7 @@ use Rattle.view.proofs.view_data.PlineViewData.get_vertex.Tie as tie
 placed : (c : tie.After-enum-told) → let a = c .before .before .before .before .before .before .args in Placed (now (a .source)) (a .self)
 placed c =
     let o = c .before .before .before in
-    place-placed _ _ (passed (o .before .serves-views .ensures) (o .if1 .left)) (ap checkReply (sym (c .enum-told .given .1)) ∙ c .before .before .check-place .ensures)
+    place-placed _ _ _ (passed (o .before .serves-views .ensures) (o .if1 .left)) (ap checkReply (sym (c .enum-told .given .1)) ∙ c .before .before .check-place .ensures)
 
 -- past the first refusals, the answer is this
 past : (c : tie.After-enum-told) → let a = c .before .before .before .before .before .before .args in let s = now (a .source) in

@@ -24,7 +24,7 @@ abbrev after : List Float → PlineViewData → List Float → Reply ℕ → Lis
 after s d out r = bufferAfter r out (written double s d out)
 
 clear : (c : tie.After-enum-told) → let a = c .before .before .before .before .before .args in Checked double (now (a .source)) (a .self)
-clear c = checked double _ _ (ap checkReply (sym (c .enum-told .given .1)) ∙ c .before .before .check-view .ensures)
+clear c = checked double _ _ _ (ap checkReply (sym (c .enum-told .given .1)) ∙ c .before .before .check-view .ensures)
 
 returns : tie.Need-returns
 unfolding listOf listBuffer bufferAfter

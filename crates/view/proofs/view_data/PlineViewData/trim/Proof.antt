@@ -22,7 +22,7 @@ use Rattle.view.proofs.view_data.PlineViewData.trim.Statement.{statemen
 use Rattle.view.proofs.view_data.PlineViewData.trim.Tie as tie
 
 clear : (c : tie.After-enum-told) → let a = c .before .before .before .before .args in Checked double (now (a .source)) (a .self)
-clear c = checked double _ _ (ap checkReply (sym (c .enum-told .given .1)) ∙ c .before .before .check-view .ensures)
+clear c = checked double _ _ _ (ap checkReply (sym (c .enum-told .given .1)) ∙ c .before .before .check-view .ensures)
 
 -- past the first two refusals, the answer is this
 past : (c : tie.Else1) → let a = c .before .before .before .before .before .before .args in let s = now (a .source) in

@@ -11,7 +11,7 @@ use Rattle.view.proofs.view_data.PlineViewData.vertex_count.Statement.{
 use Rattle.view.proofs.view_data.PlineViewData.vertex_count.Tie as tie
 
 clear : (c : tie.After-enum-told) → let a = c .before .before .before .before .args in Checked double (now (a .source)) (a .self)
-clear c = checked double _ _ (ap checkReply (sym (c .enum-told .given .1)) ∙ c .before .before .check-view .ensures)
+clear c = checked double _ _ _ (ap checkReply (sym (c .enum-told .given .1)) ∙ c .before .before .check-view .ensures)
 
 returns : tie.Need-returns
 unfolding vertexCountOf
