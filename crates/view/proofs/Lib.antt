@@ -7,3 +7,6 @@ mod Good
 mod Checks
 pub mod Listing
 pub mod Demand3
+pub mod Replies
+pub mod Shape
+pub mod Table
