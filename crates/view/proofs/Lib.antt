@@ -1,0 +1,12 @@
+mod Tab
+mod All
+pub mod Steps
+pub mod Lists
+mod Views
+mod Good
+mod Checks
+pub mod Listing
+pub mod Demand3
+pub mod Replies
+pub mod Shape
+pub mod Table

@@ -1,0 +1,28 @@
+-- The record is put together from the calls' answers, field by field.
+use mathlib.Core.Path.{ap, _∙_}
+use Prim.Native.Nat.{_-_}
+use borrow.Author.Needs.{needs}
+use Rattle.plane.specs.Vertex.{posOf}
+use Rattle.view.specs.View.{part}
+use Rattle.view.proofs.part.part.Statement.{statement}
+use Rattle.view.proofs.part.part.Tie as tie
+
+returns : tie.Need-returns
+unfolding part
+returns c =
+    let b = c .before .before .before .before in
+    let a = b .before .before .args in
+    λ t.
+    record {
+      «start_index» = b .fwd-wrapping-index .ensures .is t;
+      «end_index_offset» = a .b - a .a - 1;
+      «updated_start» = c .before .before .before .forward .ensures t;
+      «updated_end_bulge» = c .before .before .forward2 .ensures t .bulge;
+      «end_point» = (c .pos .ensures ∙ ap posOf (c .before .forward3 .ensures)) t;
+      «inverted_direction» = a .d .«inverted_direction»;
+    }
+
+pub part-spec : {M : Type 1} → statement M
+part-spec =
+    tie.close
+    (tie.spec (λ c κs. search needs) (λ c κs. search needs) (λ c. search needs) (λ c κs. search needs) (λ c κs. search needs) (λ c κs. tt) (λ c. search needs) (λ c. search needs) returns)
