@@ -2,6 +2,8 @@ pub mod Plain
 pub mod View
 pub mod Outline
 pub mod Record
+pub mod Segment
+pub mod Validation
 pub mod Needs
 pub mod Check
 pub mod Answers

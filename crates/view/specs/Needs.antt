@@ -4,10 +4,12 @@ use Prim.Native.Nat.{ℕ, _<_, _≤_}
 use mathlib.Core.List.{List}
 use lib.ListN.{length}
 use lib.Ieee.{Float}
+use mathlib.Core.Bool.{true}
+use Rattle.plane.specs.Grade.{Grade}
 use Rattle.plane.specs.Range.{mostVertices}
 use Rattle.view.specs.View.{wrapped}
-use Rattle.view.specs.Outline.{countOf}
-use Rattle.view.specs.Record.{vertices, needed}
+use Rattle.view.specs.Outline.{countOf, numbersOk}
+use Rattle.view.specs.Record.{vertices, needed, recordOk}
 use Rattle.view.specs.declared.view_data.PlineViewData.{PlineViewData}
 
 -- an index below the vertex count, and steps of at most one round
@@ -41,3 +43,9 @@ pub record PlacedPart (s : List Float) (d : PlineViewData) (a b : ℕ) : Type 0 
 pub record Room (s : List Float) (d : PlineViewData) (out : List Float) : Type 0 where
   pub placed : Placed s d
   pub room : needed d ≤ length out
+
+-- a record in an outline, all numbers in range
+pub record Judged (g : Grade) (s : List Float) (d : PlineViewData) : Type 0 where
+  pub placed : Placed s d
+  pub outline : numbersOk g s ≡ true
+  pub numbers : recordOk g d ≡ true
