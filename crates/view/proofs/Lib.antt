@@ -4,4 +4,5 @@ pub mod Steps
 pub mod Lists
 mod Views
 mod Good
+mod Checks
 pub mod Listing
