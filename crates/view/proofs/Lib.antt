@@ -6,3 +6,4 @@ mod Views
 mod Good
 mod Checks
 pub mod Listing
+mod Segments

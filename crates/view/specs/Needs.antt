@@ -4,9 +4,9 @@ use Prim.Native.Nat.{ℕ, _<_, _≤_}
 use mathlib.Core.List.{List}
 use lib.ListN.{length}
 use lib.Ieee.{Float}
-use mathlib.Core.Bool.{true}
+use mathlib.Core.Bool.{true, _&&_}
 use Rattle.plane.specs.Grade.{Grade}
-use Rattle.plane.specs.Range.{mostVertices}
+use Rattle.plane.specs.Range.{mostVertices, wholeOutline}
 use Rattle.view.specs.View.{wrapped}
 use Rattle.view.specs.Outline.{countOf, numbersOk}
 use Rattle.view.specs.Record.{vertices, needed, recordOk}
@@ -43,6 +43,11 @@ pub record PlacedPart (s : List Float) (d : PlineViewData) (a b : ℕ) : Type 0 
 pub record Room (s : List Float) (d : PlineViewData) (out : List Float) : Type 0 where
   pub placed : Placed s d
   pub room : needed d ≤ length out
+
+-- an outline of whole vertices, not too many, and a record, all numbers in range
+pub record Numbered (g : Grade) (s : List Float) (d : PlineViewData) : Type 0 where
+  pub whole : wholeOutline (length s) ≡ true
+  pub numbers : (numbersOk g s && recordOk g d) ≡ true
 
 -- a record in an outline, all numbers in range
 pub record Judged (g : Grade) (s : List Float) (d : PlineViewData) : Type 0 where

@@ -93,15 +93,20 @@ module _ (g : Grade) where
         cond (not (onOutline g limit s (d .«start_index») first)) (startOff first)
         (endVerdict d (onOutline g limit s last (d .«end_point»)) (vertexOf s last))
 
-    -- 3 (but "under two vertices, for any view call but validation"), 1, verdict 1, verdict 2; "After verdicts 1 and 2 comes refusal 4."
+    -- verdicts 1 and 2; "After verdicts 1 and 2 comes refusal 4."
+    unfoldable pub countedVerdict : List Float → PlineViewData → Reply Verdict
+    countedVerdict s d =
+        cond (ltb (countOf s) 2) (given noSegments)
+        (cond (ltb (countOf s) (d .«end_index_offset»)) (given (offsetOut (d .«end_index_offset») (countOf s)))
+        (check (ltb (d .«start_index») (countOf s)) badIndex
+        (given (placedVerdict s d))))
+
+    -- 3 (but "under two vertices, for any view call but validation"), then 1
     unfoldable pub validateOf : List Float → PlineViewData → Reply Verdict
     validateOf s d =
         check (wholeOutline (length s)) badOutline
         (check (numbersOk g s && recordOk g d) badNumber
-        (cond (ltb (countOf s) 2) (given noSegments)
-        (cond (ltb (countOf s) (d .«end_index_offset»)) (given (offsetOut (d .«end_index_offset») (countOf s)))
-        (check (ltb (d .«start_index») (countOf s)) badIndex
-        (given (placedVerdict s d))))))
+        (countedVerdict s d))
 
 -- ---- the mark
 

@@ -1,8 +1,7 @@
 // The crate's `validate_for_source`, and the mark.
-use crate::check::record_in_range;
+use crate::check::numbers_in_range;
 use crate::outline::fwd_wrapping_index;
 use crate::outline::vertex_at;
-use crate::outline::vertices_in_range;
 use crate::segment::point_is_on_segment;
 use crate::validation::MarkAnswer;
 use crate::validation::ValidationAnswer;
@@ -17,8 +16,8 @@ use real::BAD_NUMBER;
 use real::BAD_OUTLINE;
 ghost use mathlib.Core.Path.{_≡_};
 ghost use Rattle.plane.specs.Grade.{double};
-ghost use Rattle.view.specs.Needs.{Judged};
-ghost use Rattle.view.specs.Validation.{verdictOf, validationReply, bulgesMatch, endVerdict, placedVerdict, validateOf, markReply, markAnswer};
+ghost use Rattle.view.specs.Needs.{Judged, Numbered};
+ghost use Rattle.view.specs.Validation.{verdictOf, validationReply, bulgesMatch, endVerdict, placedVerdict, countedVerdict, validateOf, markReply, markAnswer};
 
 // Whether the bulges of a view on one segment match; a longer view has nothing to match.
 fn bulges_match(d: PlineViewData) -> bool
@@ -78,6 +77,29 @@ fn judge(source: &[f64], d: PlineViewData) -> ViewDataValidation
     judge_end(d, on, vertex_at(source, last))
 }
 
+// Verdicts 1 and 2, then refusal 4, then the others.
+fn judge_counts(source: &[f64], d: PlineViewData) -> ValidationAnswer
+    requires { ⌜ Numbered double (now source) d ⌝ }
+    ensures { λ r. ⌜ validationReply r ≡ countedVerdict double (double .line) (now (source .entry)) d ⌝ }
+{
+    let count = source.len() / 3;
+    let offset = d.end_index_offset;
+    let start = d.start_index;
+    if count < 2 {
+        return ValidationAnswer::Given(ViewDataValidation::SourceHasNoSegments);
+    }
+    if count < offset {
+        return ValidationAnswer::Given(ViewDataValidation::OffsetOutOfRange {
+            offset,
+            source_length: count,
+        });
+    }
+    if start >= count {
+        return ValidationAnswer::Refused(BAD_INDEX);
+    }
+    ValidationAnswer::Given(judge(source, d))
+}
+
 impl PlineViewData {
     // The crate's verdict on the record over an outline.
     pub fn validate_for_source(self, source: &[f64]) -> ValidationAnswer
@@ -86,25 +108,10 @@ impl PlineViewData {
         if !outline_is_whole(source) {
             return ValidationAnswer::Refused(BAD_OUTLINE);
         }
-        if !(vertices_in_range(source) && record_in_range(self)) {
+        if !numbers_in_range(source, self) {
             return ValidationAnswer::Refused(BAD_NUMBER);
         }
-        let count = source.len() / 3;
-        let offset = self.end_index_offset;
-        let start = self.start_index;
-        if count < 2 {
-            return ValidationAnswer::Given(ViewDataValidation::SourceHasNoSegments);
-        }
-        if count < offset {
-            return ValidationAnswer::Given(ViewDataValidation::OffsetOutOfRange {
-                offset,
-                source_length: count,
-            });
-        }
-        if start >= count {
-            return ValidationAnswer::Refused(BAD_INDEX);
-        }
-        ValidationAnswer::Given(judge(source, self))
+        judge_counts(source, self)
     }
 
     // Whether the view is cut or held.
