@@ -5,6 +5,7 @@ pub mod Record
 pub mod Segment
 pub mod Validation
 pub mod Needs
+pub mod Create
 pub mod Check
 pub mod Answers
 pub mod Rows

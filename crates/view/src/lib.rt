@@ -1,7 +1,10 @@
 // Views of an outline: the record, lookup by position, listing, reversal and trim.
 mod check;
+mod create;
+mod ending;
 mod list;
 mod lookup;
+mod new_start;
 mod outline;
 mod part;
 mod pline_view;

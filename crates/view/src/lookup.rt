@@ -97,7 +97,8 @@ fn reads_in_range(source: &[f64], d: PlineViewData, k: usize) -> bool
     if !d.inverted_direction {
         return past_in_range(source, start, k);
     }
-    past_in_range(source, start, offset + 1 - k) && (k == offset || past_in_range(source, start, offset - k))
+    past_in_range(source, start, offset + 1 - k)
+        && (k == offset || past_in_range(source, start, offset - k))
 }
 
 // Whether every number that a lookup of position k reads is in range.

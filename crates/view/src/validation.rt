@@ -6,11 +6,24 @@ ghost use Rattle.view.specs.Validation.{verdictOf, markCase, markOf};
 
 pub enum ViewDataValidation {
     SourceHasNoSegments,
-    OffsetOutOfRange { offset: usize, source_length: usize },
-    UpdatedStartNotOnSegment { start_point: Vector2 },
-    EndPointNotOnSegment { end_point: Vector2 },
-    EndPointOnFinalOffsetVertex { end_point: Vector2, final_offset_vertex: PlineVertex },
-    UpdatedBulgeDoesNotMatch { updated_bulge: f64, expected: f64 },
+    OffsetOutOfRange {
+        offset: usize,
+        source_length: usize,
+    },
+    UpdatedStartNotOnSegment {
+        start_point: Vector2,
+    },
+    EndPointNotOnSegment {
+        end_point: Vector2,
+    },
+    EndPointOnFinalOffsetVertex {
+        end_point: Vector2,
+        final_offset_vertex: PlineVertex,
+    },
+    UpdatedBulgeDoesNotMatch {
+        updated_bulge: f64,
+        expected: f64,
+    },
     IsValid,
 }
 
@@ -36,11 +49,20 @@ impl ViewDataValidation {
     {
         match self {
             ViewDataValidation::SourceHasNoSegments => 1,
-            ViewDataValidation::OffsetOutOfRange { offset: _, source_length: _ } => 2,
+            ViewDataValidation::OffsetOutOfRange {
+                offset: _,
+                source_length: _,
+            } => 2,
             ViewDataValidation::UpdatedStartNotOnSegment { start_point: _ } => 3,
             ViewDataValidation::EndPointNotOnSegment { end_point: _ } => 4,
-            ViewDataValidation::EndPointOnFinalOffsetVertex { end_point: _, final_offset_vertex: _ } => 5,
-            ViewDataValidation::UpdatedBulgeDoesNotMatch { updated_bulge: _, expected: _ } => 6,
+            ViewDataValidation::EndPointOnFinalOffsetVertex {
+                end_point: _,
+                final_offset_vertex: _,
+            } => 5,
+            ViewDataValidation::UpdatedBulgeDoesNotMatch {
+                updated_bulge: _,
+                expected: _,
+            } => 6,
             ViewDataValidation::IsValid => 7,
         }
     }
@@ -49,6 +71,10 @@ impl ViewDataValidation {
     pub fn mark(self, closed: bool) -> Mark
         ensures { λ r. ⌜ markCase r ≡ markOf closed (verdictOf self) ⌝ }
     {
-        if self.number() == 7 { Mark::Cut } else { Mark::Hold }
+        if self.number() == 7 {
+            Mark::Cut
+        } else {
+            Mark::Hold
+        }
     }
 }

@@ -38,7 +38,7 @@ unfolding listOf listBuffer bufferAfter
 returns-2 c =
     let a = c .before .before .before .before .before .before .args in
     let e : refused noRoom ≡ listOf double (now (a .source)) (a .self) (length (now (a .out))) =
-        sym (checked-rest double _ _ _ (clear (c .before)) ∙ simp (lt-leb _ _ (c .if1 .taken))) in
+    sym (checked-rest double _ _ _ (clear (c .before)) ∙ simp (lt-leb _ _ (c .if1 .taken))) in
     (e, ap (after (now (a .source)) (a .self) (now (a .out))) e)
 
 returns-3 : tie.Need-returns-3
@@ -47,7 +47,7 @@ returns-3 c =
     let b = c .before .before .before .before in
     let a = b .before .before .before .before .before .before .args in
     let e : given (vertices (a .self)) ≡ listOf double (now (a .source)) (a .self) (length (now (a .out))) =
-        sym (checked-rest double _ _ _ (clear (b .before)) ∙ simp (le-leb _ _ (b .if1 .left))) in
+    sym (checked-rest double _ _ _ (clear (b .before)) ∙ simp (le-leb _ _ (b .if1 .left))) in
     (e, c .before .before .write-list .ensures ∙ ap (after (now (a .source)) (a .self) (now (a .out))) e)
 
 pub list-spec : {M : Type 1} → statement M
