@@ -10,3 +10,4 @@ pub mod Demand3
 pub mod Replies
 pub mod Shape
 pub mod Table
+mod Segments

@@ -2,7 +2,10 @@ pub mod Plain
 pub mod View
 pub mod Outline
 pub mod Record
+pub mod Segment
+pub mod Validation
 pub mod Needs
+pub mod Create
 pub mod Check
 pub mod Answers
 pub mod Rows

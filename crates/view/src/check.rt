@@ -48,7 +48,7 @@ pub fn check_place(source: &[f64], d: PlineViewData) -> Check
 }
 
 // Whether every number of an outline and a record is in range.
-fn numbers_in_range(source: &[f64], d: PlineViewData) -> bool
+pub fn numbers_in_range(source: &[f64], d: PlineViewData) -> bool
     ensures { λ r. ⌜ r ≡ (numbersOk double (now (source .entry)) && recordOk double d) ⌝ }
 {
     vertices_in_range(source) && record_in_range(d)
