@@ -3,7 +3,9 @@ use mathlib.Core.Path.{_≡_, ap, _∙_}
 use borrow.Author.Needs.{needs}
 use borrow.Author.Tests.{lt-ltb, le-ltb}
 use Rattle.real.specs.Reply.{given}
+use denote.Ref.{now}
 use Rattle.plane.specs.Grade.{double}
+use Rattle.view.specs.Outline.{numbersOk}
 use Rattle.view.specs.Validation.{countedVerdict}
 use Rattle.view.proofs.Segments.{few-of-whole}
 use Rattle.view.proofs.All.{and-both}
@@ -25,9 +27,9 @@ returns-3 c = simp (le-ltb _ _ (c .before .before .if1 .left), le-ltb _ _ (c .be
 judge-requires : tie.Need-judge-requires
 judge-requires c κs =
     let pre = c .before .before .before .before .pre in
-    let n = and-both _ _ (pre .numbers) in
+    let n = and-both (numbersOk double (now (c .before .before .before .before .args .source))) _ (pre .numbers) in
     record {
-      placed = record { few = few-of-whole _ (pre .whole); two = c .before .before .if1 .left; start = c .if3 .left; offset = c .before .if2 .left };
+      placed = record { few = few-of-whole (now (c .before .before .before .before .args .source)) (pre .whole); two = c .before .before .if1 .left; start = c .if3 .left; offset = c .before .if2 .left };
       outline = n .0;
       numbers = n .1;
     }

@@ -4,7 +4,11 @@ use native.Mathlib.Omega.{arith}
 use borrow.Author.Needs.{needs}
 use borrow.Author.Tests.{lt-ltb, le-ltb, ltb-true}
 use Rattle.real.proofs.Pick.{picks, good, bad, passed}
+use denote.Ref.{now}
+use lib.Dec.{ltb}
 use Rattle.plane.specs.Grade.{double}
+use Rattle.plane.specs.Range.{pointOk}
+use Rattle.view.specs.Outline.{countOf, numbersOk}
 use Rattle.view.specs.Create.{createOf}
 use Rattle.view.proofs.All.{and-both}
 use Rattle.view.proofs.Checks.{viewable-in}
@@ -40,13 +44,14 @@ ends c κs =
     let past3 = past4 .before in
     let past2 = past3 .before .before in
     let past1 = past2 .before .before in
-    let n = and-both _ _ (passed (past2 .before .all-in-range .ensures) (past2 .if2 .left)) in
+    let a = past1 .before .before .before .args in
+    let n = and-both (numbersOk double (now (a .source))) _ (passed (past2 .before .all-in-range .ensures) (past2 .if2 .left)) in
     record {
       splits = record {
         few = viewable-in _ (passed (past1 .before .serves-views .ensures) (past1 .if1 .left)) .1;
-        index = ltb-true _ _ (and-both _ _ (passed (c .before .both-below .ensures) (c .if5 .left)) .1);
+        index = ltb-true _ _ (and-both (ltb (a .start) (countOf (now (a .source)))) _ (passed (c .before .both-below .ensures) (c .if5 .left)) .1);
         numbers = n .0;
-        point = and-both _ _ (n .1) .0;
+        point = and-both (pointOk double (a .p)) _ (n .1) .0;
         tolerance = passed (past3 .before .tol-in-range .ensures) (past3 .if3 .left);
       };
       some = omega (arith, past4 .if4 .left);

@@ -4,7 +4,9 @@ use mathlib.Core.Bool.{not}
 use borrow.Author.Needs.{needs}
 use borrow.Author.Tests.{lt-ltb, le-ltb}
 use Rattle.real.proofs.Pick.{picks, good, bad, passed, given-is}
+use denote.Ref.{now}
 use Rattle.plane.specs.Grade.{double}
+use Rattle.view.specs.Outline.{numbersOk}
 use Rattle.view.specs.Create.{newStartOf}
 use Rattle.view.proofs.All.{and-both}
 use Rattle.view.proofs.Checks.{viewable-in}
@@ -20,7 +22,7 @@ returns-4 c =
     good _ (past1 .before .serves-views .ensures) (past1 .if1 .left)
     (good _ (past2 .before .outline-and-point-in-range .ensures) (past2 .if2 .left)
     (good _ (past3 .before .tol-in-range .ensures) (past3 .if3 .left)
-    (bad _ refl (c .if4 .taken) refl)))
+    (bad {t = past1 .before .before .before .args .closed} _ refl (c .if4 .taken) refl)))
 
 returns-5 : tie.Need-returns-5
 unfolding newStartOf
@@ -45,7 +47,7 @@ splits c κs =
     let past3 = c .before .before .before in
     let past2 = past3 .before .before in
     let past1 = past2 .before .before in
-    let n = and-both _ _ (passed (past2 .before .outline-and-point-in-range .ensures) (past2 .if2 .left)) in
+    let n = and-both (numbersOk double (now (past1 .before .before .before .args .source))) _ (passed (past2 .before .outline-and-point-in-range .ensures) (past2 .if2 .left)) in
     record {
       few = viewable-in _ (passed (past1 .before .serves-views .ensures) (past1 .if1 .left)) .1;
       index = c .move-on .ensures .below;
