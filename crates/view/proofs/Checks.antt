@@ -20,7 +20,7 @@ use Rattle.view.specs.declared.view_data.PlineViewData.{PlineViewData}
 use Rattle.view.proofs.All.{and-both}
 
 -- one link of a chain: it passed, so its test holds; it refused, and so does the link before any other rest
-check-passed : {A : Type 0} {b : Bool} {a : A} (n : ℕ) (rest : Reply A) → given a ≡ check b n rest → (b ≡ true) × (given a ≡ rest)
+pub check-passed : {A : Type 0} {b : Bool} {a : A} (n : ℕ) (rest : Reply A) → given a ≡ check b n rest → (b ≡ true) × (given a ≡ rest)
 check-passed {b = true} n rest e = (refl, e)
 check-passed {b = false} n rest e = let z : _≡_ {A = ℕ} 0 1 = cc in absurd (omega arith)
 

@@ -11,3 +11,5 @@ pub mod Replies
 pub mod Shape
 pub mod Table
 mod Segments
+pub mod Cut
+pub mod Made

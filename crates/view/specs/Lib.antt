@@ -11,3 +11,4 @@ pub mod Answers
 pub mod Rows
 pub mod Demand3
 pub mod Cases
+pub mod Cut
