@@ -12,3 +12,4 @@ pub mod Rows
 pub mod Demand3
 pub mod Cases
 pub mod Cut
+pub mod Table
