@@ -28,7 +28,7 @@ abbrev pub countReply : CountAnswer → Reply ℕ
 countReply (count.Given n) = given n
 countReply (count.Refused n) = refused n
 
--- "given exactly when": the buffer after a call that may be refused
+-- what a buffer holds after a call: "a refused call writes nothing"
 unfoldable pub bufferAfter : {A : Type 0} → Reply A → List Float → List Float → List Float
 bufferAfter (refused n) before after = before
 bufferAfter (given a) before after = after
@@ -51,11 +51,10 @@ module _ (g : Grade) (s : List Float) (d : PlineViewData) where
   unfoldable pub listOf : ℕ → Reply ℕ
   listOf m = checkOf g s d (check (leb (needed d) m) noRoom (given (vertices d)))
 
-  -- the list in threes from the buffer's start, "where places past the list keep what they held"
+  -- the buffer afterwards: the list in threes from its start, "where places past the list keep what they held"
   unfoldable pub written : List Float → List Float
   written out = flat (listed g s d) ++ drop (needed d) out
 
-  -- "A refusal .. writes to no buffer."
   unfoldable pub listBuffer : List Float → List Float
   listBuffer out = bufferAfter (listOf (length out)) out (written out)
 

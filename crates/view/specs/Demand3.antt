@@ -1,4 +1,4 @@
--- Demand 3 of document 00, sentence by sentence, of the library's own answers. proofs/Demand3.antt proves it.
+-- Demand 3 of document 00, sentence by sentence, of the library's own answers: at any grade, and so at `double`. proofs/Demand3.antt proves it.
 use mathlib.Core.Path.{_≡_}
 use mathlib.Core.Bool.{Bool, false, _&&_}
 use mathlib.Core.List.{List, _++_}
