@@ -1,14 +1,13 @@
 -- Cases P7, P8 and P9: the plain list of R and its steps are worked out, and demand 3 says that the library lists them.
 use mathlib.Core.Path.{_≡_, refl, subst}
 use mathlib.Core.List.{List, [], _∷_}
-use Prim.Native.Nat.{ℕ}
 use native.Mathlib.Omega.{arith}
 use lib.Ieee.{Float, neg, ofBits, ofFields, odd, le, lt, eq}
 use Rattle.real.specs.Root.{absOf}
 use Rattle.plane.specs.Grade.{double}
 use Rattle.plane.specs.Range.{wholeOutline, coordOk, bulgeOk, pointOk, vertexOk}
 use Rattle.view.specs.Plain.{Vert, tab, Step, turn, trim, turnAt, trimAt, turnList, trimList, stepList, rowList}
-use Rattle.view.specs.View.{forward, backward, vertexAt, viewList}
+use Rattle.view.specs.View.{forward, vertexAt, viewList}
 use Rattle.view.specs.Outline.{viewable, all, numbersOk}
 use Rattle.view.specs.Record.{listed, recordOk}
 use Rattle.view.specs.Check.{placeOf, checkOf}

@@ -1,6 +1,6 @@
 -- What each public call answers, as a chain of refusals in document 01's order and then the value, and what a lent buffer holds afterwards.
 use Prim.Native.Nat.{ℕ, _+_}
-use mathlib.Core.Bool.{Bool, cond, _&&_}
+use mathlib.Core.Bool.{_&&_}
 use mathlib.Core.List.{List, _++_}
 use lib.ListN.{length, drop}
 use lib.Dec.{ltb, leb}
@@ -9,7 +9,7 @@ use Rattle.real.specs.Refusal.{badNumber, badOutline, badIndex, unevenBulges, n
 use Rattle.real.specs.Reply.{Reply, refused, given, check}
 use Rattle.plane.specs.Grade.{Grade}
 use Rattle.plane.specs.declared.pline_vertex.PlineVertex.{PlineVertex}
-use Rattle.view.specs.Plain.{Vert, flat}
+use Rattle.view.specs.Plain.{flat}
 use Rattle.view.specs.View.{turnView, trimView}
 use Rattle.view.specs.Outline.{countOf, srcOf, viewable}
 use Rattle.view.specs.Record.{viewOf, dataOf, vertices, needed, evenBits, vertexAtOf, listed, recordOk, readsOk}

@@ -1,5 +1,5 @@
 -- Cases P7, P8 and P9 of document 01: the outline Q, the record R, and what the library lists. proofs/Table.antt proves them.
-use mathlib.Core.Bool.{Bool, true, false}
+use mathlib.Core.Bool.{true, false}
 use mathlib.Core.List.{List, [], _∷_}
 use lib.IntN.{pos, negsuc}
 use lib.Ieee.{Float, fin}
