@@ -25,6 +25,7 @@ use Rattle.view.specs.Demand3.{Unrefused, SameBits, Even, Lists, Kept, D
 use Rattle.view.specs.declared.view_data.PlineViewData.{PlineViewData}
 use Rattle.view.proofs.All.{and-both, all-each}
 use Rattle.view.proofs.Checks.{Checked, checked, checked-rest}
+use Rattle.view.proofs.Lists.{plain-steps}
 use Rattle.view.proofs.Good.{InRange, Good, turn-good, trim-good}
 use Rattle.view.proofs.Listing.{list-turn, list-trim, turn-twice, trim-after-turn, length-list}
 
@@ -152,6 +153,7 @@ module _ (g : Grade) (s : List Float) where
   kept d f =
       record {
         lists = lists d f;
+        plain = plain-steps neg (g .zero) (listed g s d) (omega (arith, count d f));
         turned = reverses d f ∙ ap given (sym (turn-step d f));
         trimmed = λ i j below within. let e = both i j (vertices d) below (rw (count d f) at within) in trims d f i j true e ∙ ap given (sym (trim-step d f i j true e));
         refusal = λ i j e. trims d f i j false (rw (count d f) at e);

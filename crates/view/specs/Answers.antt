@@ -20,6 +20,7 @@ use Rattle.view.specs.declared.view_data.ViewAnswer.the-variants as view
 use Rattle.view.specs.declared.view_data.CountAnswer.{CountAnswer}
 use Rattle.view.specs.declared.view_data.CountAnswer.the-variants as count
 
+-- the code's answers as replies
 abbrev pub viewReply : ViewAnswer → Reply PlineViewData
 viewReply (view.Given d) = given d
 viewReply (view.Refused n) = refused n

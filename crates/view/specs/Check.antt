@@ -12,7 +12,7 @@ use Rattle.view.specs.declared.check.Check.{Check}
 use Rattle.view.specs.declared.check.Check.the-variants as check-case
 use Rattle.view.specs.declared.view_data.PlineViewData.{PlineViewData}
 
--- nothing to refuse
+-- the code's answer to a check; one that passes has nothing to say but that
 abbrev pub pass : Reply (Unit {0})
 pass = given tt
 
