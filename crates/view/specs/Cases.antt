@@ -1,0 +1,48 @@
+-- The outline Q and the record R of document 01's cases, and their numbers.
+use mathlib.Core.Bool.{Bool, true, false}
+use mathlib.Core.List.{List, [], _∷_}
+use lib.IntN.{pos, negsuc}
+use lib.Ieee.{Float, fin}
+use Rattle.view.specs.Plain.{Vert}
+use Rattle.view.specs.declared.view_data.PlineViewData.{PlineViewData}
+
+-- a number of the cases: its sign, and a significand times a power of two
+abbrev pub n0 : Float
+n0 = fin false 0 (pos 0)
+
+abbrev pub -0 : Float
+-0 = fin true 0 (pos 0)
+
+abbrev pub n1 : Float
+n1 = fin false 1 (pos 0)
+
+abbrev pub n2 : Float
+n2 = fin false 1 (pos 1)
+
+abbrev pub n4 : Float
+n4 = fin false 1 (pos 2)
+
+abbrev pub half : Float
+half = fin false 1 (negsuc 0)
+
+abbrev pub -half : Float
+-half = fin true 1 (negsuc 0)
+
+abbrev pub vert : Float → Float → Float → Vert Float
+vert x y b = record { x = x; y = y; bulge = b }
+
+-- "Q is (0,0,0), (4,0,0.5), (4,4,0), (0,4,0)"
+unfoldable pub Q : List Float
+Q = n0 ∷ n0 ∷ n0 ∷ n4 ∷ n0 ∷ half ∷ n4 ∷ n4 ∷ n0 ∷ n0 ∷ n4 ∷ n0 ∷ []
+
+-- "R is start 0, offset 2, updated start (1,0,0), end bulge 0, end (2,4), forward"
+unfoldable pub R : PlineViewData
+R =
+    record {
+      «start_index» = 0;
+      «end_index_offset» = 2;
+      «updated_start» = record { x = n1; y = n0; bulge = n0 };
+      «updated_end_bulge» = n0;
+      «end_point» = record { x = n2; y = n4 };
+      «inverted_direction» = false;
+    }

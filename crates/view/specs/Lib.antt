@@ -1,0 +1,10 @@
+pub mod Plain
+pub mod View
+pub mod Outline
+pub mod Record
+pub mod Needs
+pub mod Check
+pub mod Answers
+pub mod Rows
+pub mod Demand3
+pub mod Cases

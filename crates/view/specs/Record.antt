@@ -1,0 +1,81 @@
+-- The view record of the source, as the view of `View`, and the tests that the calls make of it.
+use Prim.Native.Nat.{ℕ, _+_, _*_, _-_}
+use mathlib.Core.Bool.{Bool, true, cond, not, _&&_, _||_}
+use mathlib.Core.List.{List}
+use lib.Dec.{ltb, eqb}
+use lib.Ieee.{Float, neg, toBits}
+use Rattle.plane.specs.Grade.{Grade}
+use Rattle.plane.specs.Range.{bulgeOk, pointOk, vertexOk}
+use Rattle.plane.specs.declared.pline_vertex.PlineVertex.{PlineVertex}
+use Rattle.view.specs.Plain.{Vert}
+use Rattle.view.specs.View.{View, wrapped, forward, backward, vertexAt, listOf, part}
+use Rattle.view.specs.Outline.{vertexOf, countOf, vertOf, ofVert, srcOf}
+use Rattle.view.specs.declared.view_data.PlineViewData.{PlineViewData}
+
+abbrev pub viewOf : PlineViewData → View Float
+viewOf d =
+    record {
+      start = d .«start_index»;
+      offset = d .«end_index_offset»;
+      first = vertOf (d .«updated_start»);
+      endBulge = d .«updated_end_bulge»;
+      endX = d .«end_point» .x;
+      endY = d .«end_point» .y;
+      inverted = d .«inverted_direction»;
+    }
+
+abbrev pub dataOf : View Float → PlineViewData
+dataOf r =
+    record {
+      «start_index» = r .start;
+      «end_index_offset» = r .offset;
+      «updated_start» = ofVert (r .first);
+      «updated_end_bulge» = r .endBulge;
+      «end_point» = record { x = r .endX; y = r .endY };
+      «inverted_direction» = r .inverted;
+    }
+
+-- how many vertices a view has, and how many numbers its list
+abbrev pub vertices : PlineViewData → ℕ
+vertices d = d .«end_index_offset» + 2
+
+abbrev pub needed : PlineViewData → ℕ
+needed d = 3 * vertices d
+
+-- what refusal 7 asks for: "offset 0 and bulges of unequal bits" does not hold
+unfoldable pub evenBits : Grade → PlineViewData → Bool
+evenBits g d = not (eqb (d .«end_index_offset») 0) || eqb (toBits (g .format) (d .«updated_start» .bulge)) (toBits (g .format) (d .«updated_end_bulge»))
+
+module _ (g : Grade) where
+  abbrev pub forwardOf : List Float → PlineViewData → ℕ → PlineVertex
+  forwardOf s d k = ofVert (forward (g .zero) (srcOf s) (countOf s) (viewOf d) k)
+
+  abbrev pub backwardOf : List Float → PlineViewData → ℕ → PlineVertex
+  backwardOf s d k = ofVert (backward neg (g .zero) (srcOf s) (countOf s) (viewOf d) k)
+
+  abbrev pub vertexAtOf : List Float → PlineViewData → ℕ → PlineVertex
+  vertexAtOf s d k = ofVert (vertexAt neg (g .zero) (srcOf s) (countOf s) (viewOf d) k)
+
+  -- the view's list
+  abbrev pub listed : List Float → PlineViewData → List (Vert Float)
+  listed s d = listOf neg (g .zero) (srcOf s) (countOf s) (viewOf d)
+
+  abbrev pub partOf : List Float → PlineViewData → ℕ → ℕ → PlineViewData
+  partOf s d a b = dataOf (part (g .zero) (srcOf s) (countOf s) a b (viewOf d))
+
+  -- the record's numbers are in range
+  unfoldable pub recordOk : PlineViewData → Bool
+  recordOk d = vertexOk g (d .«updated_start») && (bulgeOk g (d .«updated_end_bulge») && pointOk g (d .«end_point»))
+
+  -- the vertex that lies `steps` past `start` is in range
+  unfoldable pub pastOk : List Float → ℕ → ℕ → Bool
+  pastOk s start steps = vertexOk g (vertexOf s (wrapped start steps (countOf s)))
+
+  -- "only the source vertices that it reads": at the first and the last position none; forward the k-th past the start;
+  -- inverted the one that stands there, and before position `offset` the one that its bulge is from
+  unfoldable pub readsOk : List Float → PlineViewData → ℕ → Bool
+  readsOk s d k =
+      cond (eqb k 0 || ltb (d .«end_index_offset») k) true
+      (cond (d .«inverted_direction»)
+      (pastOk s (d .«start_index») (d .«end_index_offset» + 1 - k) && (eqb k (d .«end_index_offset») || pastOk s (d .«start_index») (d .«end_index_offset» - k)))
+      (pastOk s (d .«start_index») k))

@@ -1,0 +1,53 @@
+// An outline: vertices lent as f64 in threes x, y, bulge.
+use plane::PlineVertex;
+use plane::outline_is_whole;
+use plane::vertex_in_range;
+ghost use mathlib.Core.Path.{_≡_};
+ghost use Prim.Native.Nat.{_<_};
+ghost use Rattle.plane.specs.Grade.{double};
+ghost use Rattle.view.specs.Outline.{vertexOf, countOf, viewable, numbersOk};
+ghost use Rattle.view.specs.Needs.{Wraps, Wrapped};
+
+// Vertex k of an outline.
+pub fn vertex_at(source: &[f64], k: usize) -> PlineVertex
+    requires { ⌜ k < countOf (now source) ⌝ }
+    ensures { λ r. ⌜ r ≡ vertexOf (now (source .entry)) k ⌝ }
+{
+    let at = 3 * k;
+    PlineVertex {
+        x: source[at],
+        y: source[at + 1],
+        bulge: source[at + 2],
+    }
+}
+
+// The vertex number that lies `offset` places past `start`, of `count` vertices.
+pub fn fwd_wrapping_index(start: usize, offset: usize, count: usize) -> usize
+    requires { ⌜ Wraps start offset count ⌝ }
+    ensures { λ r. ⌜ Wrapped start offset count r ⌝ }
+{
+    (start + offset) % count
+}
+
+// Whether a view can be over a slice: whole vertices, two or more of them and not too many.
+pub fn serves_views(source: &[f64]) -> bool
+    ensures { λ r. ⌜ r ≡ viewable (now (source .entry)) ⌝ }
+{
+    outline_is_whole(source) && source.len() / 3 >= 2
+}
+
+// Whether every vertex of an outline is in range.
+pub fn vertices_in_range(source: &[f64]) -> bool
+    ensures { λ r. ⌜ r ≡ numbersOk double (now (source .entry)) ⌝ }
+{
+    let count = source.len() / 3;
+    let mut k = 0;
+    while k < count {
+        let v = vertex_at(source, k);
+        if !vertex_in_range(v) {
+            return false;
+        }
+        k += 1;
+    }
+    true
+}
