@@ -1,0 +1,4 @@
+pub mod Ascii
+pub mod Wrote
+pub mod Bytes
+pub mod Text

@@ -1,0 +1,3 @@
+// The job sheet: its bytes, its records and its text.
+mod bytes;
+mod text;
