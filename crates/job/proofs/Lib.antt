@@ -1,2 +1,3 @@
+mod Tests
 mod Writing
 mod Digits
