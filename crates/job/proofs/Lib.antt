@@ -1,3 +1,7 @@
 mod Tests
 mod Writing
 mod Digits
+mod Fill
+mod Boxes
+mod Heads
+pub mod Sheets

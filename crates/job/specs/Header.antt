@@ -1,6 +1,7 @@
 -- A sheet's header.
-use Prim.Native.Nat.{ℕ, _+_, _*_, _/_, _%_}
-use mathlib.Core.Bool.{Bool, _&&_}
+use mathlib.Core.Path.{_≡_}
+use Prim.Native.Nat.{ℕ, _+_, _*_, _/_, _%_, _≤_}
+use mathlib.Core.Bool.{Bool, true, _&&_}
 use mathlib.Core.List.{List}
 use lib.ListN.{length}
 use lib.Dec.{ltb, leb, eqb}
@@ -45,3 +46,11 @@ headerFits h n =
 
 unfoldable pub headerOk : List ℕ → Bool
 headerOk b = leb 16 (length b) && headerFits (headerOf b) (length b)
+
+-- what the inner functions ask: h is the header of a sheet b that has a good one, and what that says of its numbers
+pub record Headed (b : List ℕ) (h : Header) : Type 0 where
+  pub is : h ≡ headerOf b
+  pub sound : headerOk b ≡ true
+  pub vertices : h .vertices ≤ mostVertices
+  pub views : h .views ≤ mostViews
+  pub size : length b ≡ 16 + 24 * h .vertices + 64 * h .views

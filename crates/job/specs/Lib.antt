@@ -4,3 +4,9 @@ pub mod Bytes
 pub mod Text
 pub mod Header
 pub mod Record
+pub mod Outline
+pub mod Extent
+pub mod Sheet
+pub mod Lines
+pub mod Views
+pub mod Parts

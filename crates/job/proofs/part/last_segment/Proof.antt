@@ -1,0 +1,18 @@
+use borrow.Author.Needs.{needs}
+use Rattle.job.proofs.part.last_segment.Statement.{statement}
+use Rattle.job.proofs.part.last_segment.Tie as tie
+
+sub-result : tie.Need-sub-result
+sub-result c = search needs
+
+sub-result-2 : tie.Need-sub-result-2
+sub-result-2 c = search needs
+
+returns : tie.Need-returns
+returns c = ?
+
+returns-2 : tie.Need-returns-2
+returns-2 c = ?
+
+pub last-segment-spec : {M : Type 1} → statement M
+last-segment-spec = tie.close (tie.spec sub-result sub-result-2 returns returns-2)

@@ -1,0 +1,12 @@
+use borrow.Author.Needs.{needs}
+use Rattle.job.proofs.part.refused_sheet.Statement.{statement}
+use Rattle.job.proofs.part.refused_sheet.Tie as tie
+
+put-refused-requires : tie.Need-put-refused-requires
+put-refused-requires c κs = search needs
+
+returns : tie.Need-returns
+returns c = ?
+
+pub refused-sheet-spec : {M : Type 1} → statement M
+refused-sheet-spec = tie.close (tie.spec put-refused-requires returns)
