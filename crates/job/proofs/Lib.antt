@@ -2,6 +2,10 @@ mod Tests
 mod Writing
 mod Digits
 mod Fill
+mod Joined
+mod Replies
 mod Boxes
 mod Heads
 pub mod Sheets
+mod Viewing
+mod Parting

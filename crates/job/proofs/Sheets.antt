@@ -1,13 +1,13 @@
 -- What a sheet's check says, by its header at hand; and what an accepted sheet is.
 use mathlib.Core.Path.{_≡_, refl, sym, ap, _∙_}
-use mathlib.Core.Bool.{Bool, true, false}
+use mathlib.Core.Bool.{true}
 use mathlib.Core.List.{List, _++_}
 use Prim.Native.Nat.{ℕ, _+_, _*_}
 use native.Mathlib.Omega.{arith}
 use lib.ListN.{length, drop, length-append, length-drop}
 use lib.Ieee.{Float}
 use Rattle.real.specs.Refusal.{badNumber, badSheet, badRecord}
-use Rattle.real.specs.Reply.{Reply, refused, given, check}
+use Rattle.real.specs.Reply.{Reply, given}
 use Rattle.plane.specs.Grade.{double}
 use Rattle.plane.specs.Range.{vertexOk}
 use Rattle.view.specs.Outline.{all}
@@ -19,6 +19,7 @@ use Rattle.job.specs.Header.{headerOf, headerOk, Headed}
 use Rattle.job.specs.Record.{recordOk}
 use Rattle.job.specs.Outline.{vertexIn, numbersIn}
 use Rattle.job.specs.Sheet.{vertices, views, outlineOf, recordsOk, verticesOk, sheetOf, outlineNumbers, openOf, openBuffer}
+use Rattle.job.proofs.Replies.{check-given, same-given}
 use Rattle.job.proofs.Heads.{headed}
 
 module _ (b : List ℕ) (h : Header) (g : Headed b h) where
@@ -35,17 +36,13 @@ pub record Accepted (b : List ℕ) : Type 0 where
   pub records : recordsOk b ≡ true
   pub vertices : verticesOk b ≡ true
 
-passed : {A : Type 0} {a : A} (t : Bool) (n : ℕ) (rest : Reply A) → check t n rest ≡ given a → (t ≡ true) × (rest ≡ given a)
-passed true n rest e = (refl, e)
-passed false n rest e = let z : _≡_ {A = ℕ} 0 1 = cc in absurd (omega arith)
-
 module _ {A : Type 0} (b : List ℕ) where
   pub accepted : {a : A} (rest : Reply A) → sheetOf b rest ≡ given a → Accepted b
   unfolding sheetOf
   accepted rest e =
-      let p = passed (headerOk b) badSheet _ e in
-      let q = passed (recordsOk b) badRecord _ (p .1) in
-      record { header = p .0; records = q .0; vertices = passed (verticesOk b) badNumber rest (q .1) .0 }
+      let p = check-given (headerOk b) badSheet _ e in
+      let q = check-given (recordsOk b) badRecord _ (p .1) in
+      record { header = p .0; records = q .0; vertices = check-given (verticesOk b) badNumber rest (q .1) .0 }
 
   pub accepted-rest : (rest : Reply A) → Accepted b → sheetOf b rest ≡ rest
   unfolding sheetOf
@@ -60,10 +57,7 @@ module _ (b : List ℕ) (o : Opened) (e : openOf b ≡ given o) where
 
   pub opened-is : o ≡ record { numbers = 3 * vertices b; parts = views b + 2 }
   unfolding openOf
-  opened-is = same (sym e ∙ accepted-rest b _ opened-accepted)
-    where
-      same : {x y : Opened} → given x ≡ given y → x ≡ y
-      same p = cc
+  opened-is = same-given (sym e ∙ accepted-rest b _ opened-accepted)
 
   -- the outline's buffer keeps its length
   pub opened-length : (l : List Float) → length l ≡ outlineNumbers → length (openBuffer b l) ≡ outlineNumbers

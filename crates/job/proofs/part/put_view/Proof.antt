@@ -1,3 +1,9 @@
+use mathlib.Core.Path.{_≡_, sym, ap, _∙_}
+use native.Mathlib.Omega.{arith}
+use denote.Ref.{now}
+use Rattle.view.specs.Validation.{validationReply}
+use Rattle.job.proofs.Writing.{named}
+use Rattle.job.proofs.Viewing.{refused-text, refused-buffer}
 use borrow.Author.Needs.{needs}
 use Rattle.job.proofs.part.put_view.Statement.{statement}
 use Rattle.job.proofs.part.put_view.Tie as tie
@@ -18,13 +24,20 @@ enum-known-answer-2 : tie.Need-enum-known-answer-2
 enum-known-answer-2 c = search needs
 
 put-marked-requires : tie.Need-put-marked-requires
-put-marked-requires c κs = ?
+put-marked-requires c κs = 
+    let o = c .before .before .before .before .before .before .before .before .before in
+    (o .pre .0, omega arith, omega arith, sym (c .before .before .before .before .before .validate-for-source .ensures) ∙ ap validationReply (c .before .before .before .answer2 .given .1))
 
 same-length : tie.Need-same-length
 same-length c = search needs
 
 returns : tie.Need-returns
-returns c = ?
+returns c = 
+    let p = c .before .before in
+    let o = c .before .before .before .before .before .before .before .before .before .before .before in
+    let a = o .args in
+    let e = sym (p .before .before .before .before .before .validate-for-source .ensures) ∙ ap validationReply (p .before .before .before .answer .given .1) in
+    (named (refused-text (a .closed) (now (a .outline)) (a .d) (a .k) (now (a .list)) _ e) (p .put-refused-view .ensures .0), omega arith, refused-buffer (a .closed) (now (a .outline)) (a .d) (a .k) (now (a .list)) _ e)
 
 same-length-2 : tie.Need-same-length-2
 same-length-2 c = search needs

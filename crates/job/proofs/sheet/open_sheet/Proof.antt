@@ -19,7 +19,7 @@ header-of-requires c κs = long-header _ (passed (c .before .header-is-sound .en
 open-after-requires : tie.Need-open-after-requires
 open-after-requires c κs = 
     let h = c .before .before in
-    (headed _ _ (passed (h .before .header-is-sound .ensures) (h .if1 .left)) (c .before .header-of .ensures), ?)
+    (headed _ _ (passed (h .before .header-is-sound .ensures) (h .if1 .left)) (c .before .header-of .ensures), search needs)
 
 returns-2 : tie.Need-returns-2
 returns-2 c = search needs
