@@ -9,3 +9,5 @@ mod Heads
 pub mod Sheets
 mod Viewing
 mod Parting
+pub mod Whole
+pub mod Records
