@@ -11,6 +11,9 @@ open Grade double using (zero, one, two, four)
 abbrev pub f64 : ℕ → Float
 f64 b = ofBits binary64 b
 
+abbrev pub minusZero : Float
+minusZero = f64 0x8000_0000_0000_0000
+
 abbrev pub half : Float
 half = f64 0x3fe0_0000_0000_0000
 

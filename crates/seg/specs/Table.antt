@@ -1,7 +1,7 @@
 -- Document 01's cases P1 to P6 and P12, as one statement over the definitions at f64.
 use mathlib.Core.Path.{_≡_}
 use lib.Ieee.{binary64}
-use Rattle.real.specs.Root.{rootOf}
+use Rattle.real.specs.Sqrt.{IsSqrt}
 use Rattle.real.specs.Reply.{given}
 use Rattle.plane.specs.Grade.{Grade, double}
 use Rattle.plane.specs.Vertex.{posOf}
@@ -10,7 +10,7 @@ use Rattle.seg.specs.Split.{splitAt, segSplit}
 use Rattle.seg.specs.Tangent.{segTangent}
 use Rattle.seg.specs.Middle.{segMid}
 use Rattle.seg.specs.Bounds.{bounds, segBox, segFastBox}
-use Rattle.seg.specs.Cases.{f64, half, minusHalf, minusOne, three, vec, H, H′, G, G′}
+use Rattle.seg.specs.Cases.{f64, minusZero, half, minusHalf, minusOne, three, vec, H, H′, G, G′}
 open Grade double using (zero, one, two, four, line, onVertex)
 
 pub record SegmentTable : Type 0 where
@@ -27,7 +27,7 @@ pub record SegmentTable : Type 0 where
   -- P6 H split at (3,0), tolerance 1e-5: start bulge 0, split vertex (3,0,1)
   pub p6 : segSplit double line H H′ (vec three zero) onVertex ≡ given (splitAt (posOf H) zero (vec three zero) one)
   -- P12 roots: 4 gives 2; 2 gives 3ff6a09e667f3bcd; bits 1 gives 1e60000000000000; minus zero stays
-  pub p12-four : rootOf binary64 four ≡ two
-  pub p12-two : rootOf binary64 two ≡ f64 0x3ff6_a09e_667f_3bcd
-  pub p12-least : rootOf binary64 (f64 1) ≡ f64 0x1e60_0000_0000_0000
-  pub p12-minus-zero : rootOf binary64 (f64 0x8000_0000_0000_0000) ≡ f64 0x8000_0000_0000_0000
+  pub p12-four : IsSqrt binary64 four (given two)
+  pub p12-two : IsSqrt binary64 two (given (f64 0x3ff6_a09e_667f_3bcd))
+  pub p12-least : IsSqrt binary64 (f64 1) (given (f64 0x1e60_0000_0000_0000))
+  pub p12-minus-zero : IsSqrt binary64 minusZero (given minusZero)

@@ -115,18 +115,15 @@ module _ {A : Type 0} (neg : A → A) (z : A) (src : ℕ → Vert A) (n : ℕ) (
             simp (ne-eqb k 0 (omega arith), le-ltb k (r .offset) (omega arith), ne-eqb k (r .offset) (omega arith), e₁, le-ltb (suc k) (r .offset + 2) (omega arith), at-first z src n r)
 
 module _ {A : Type 0} (z : A) (src : ℕ → Vert A) (n : ℕ) (r : View A) (a b : ℕ) (below : a < b) (within : b ≤ r .offset + 1) where
-  abbrev F′ : ℕ → Vert A
-  F′ = forward z src n r
-
   abbrev r′ : View A
   r′ = part z src n a b r
 
   -- from position a to position b, the new record lists what the old one does, up to the last bulge
-  pub part-forward : (k : ℕ) → k < suc (b - a) → forward z src n (part z src n a b r) k ≡ trimAt z F′ a b k
+  pub part-forward : (k : ℕ) → k < suc (b - a) → forward z src n r′ k ≡ trimAt z (forward z src n r) a b k
   unfolding part trimAt
   part-forward k h = go (place (b - a - 1) k (omega arith))
     where
-      go : Place (b - a - 1) k → forward z src n r′ k ≡ trimAt z F′ a b k
+      go : Place (b - a - 1) k → forward z src n r′ k ≡ trimAt z (forward z src n r) a b k
       go (first e) =
           let e₁ : a + k ≡ a = omega arith in
           simp (e₁, lt-ltb k (b - a) (omega arith)) (rw e (at-first z src n r′))

@@ -1,48 +1,34 @@
--- The outline Q and the record R of document 01's cases, and their numbers.
-use mathlib.Core.Bool.{Bool, true, false}
+-- The outline Q and the record R of document 01's cases.
+use mathlib.Core.Bool.{false}
 use mathlib.Core.List.{List, [], _∷_}
-use lib.IntN.{pos, negsuc}
-use lib.Ieee.{Float, fin}
+use Prim.Native.Nat.{ℕ}
+use lib.Ieee.{Float}
+use Rattle.plane.specs.Grade.{Grade, double}
+use Rattle.plane.specs.Vertex.{vertexAt}
+use Rattle.plane.specs.declared.vector2.Vector2.{Vector2}
+use Rattle.seg.specs.Cases.{half, vec}
 use Rattle.view.specs.Plain.{Vert}
 use Rattle.view.specs.declared.view_data.PlineViewData.{PlineViewData}
-
--- a number of the cases: its sign, and a significand times a power of two
-abbrev pub n0 : Float
-n0 = fin false 0 (pos 0)
-
-abbrev pub -0 : Float
--0 = fin true 0 (pos 0)
-
-abbrev pub n1 : Float
-n1 = fin false 1 (pos 0)
-
-abbrev pub n2 : Float
-n2 = fin false 1 (pos 1)
-
-abbrev pub n4 : Float
-n4 = fin false 1 (pos 2)
-
-abbrev pub half : Float
-half = fin false 1 (negsuc 0)
-
-abbrev pub -half : Float
--half = fin true 1 (negsuc 0)
+open Grade double using (zero, one, two, four)
 
 abbrev pub vert : Float → Float → Float → Vert Float
 vert x y b = record { x = x; y = y; bulge = b }
 
 -- "Q is (0,0,0), (4,0,0.5), (4,4,0), (0,4,0)"
 unfoldable pub Q : List Float
-Q = n0 ∷ n0 ∷ n0 ∷ n4 ∷ n0 ∷ half ∷ n4 ∷ n4 ∷ n0 ∷ n0 ∷ n4 ∷ n0 ∷ []
+Q = zero ∷ zero ∷ zero ∷ four ∷ zero ∷ half ∷ four ∷ four ∷ zero ∷ zero ∷ four ∷ zero ∷ []
 
--- "R is start 0, offset 2, updated start (1,0,0), end bulge 0, end (2,4), forward"
-unfoldable pub R : PlineViewData
-R =
+-- "R is start 0, offset 2, updated start (1,0,0), end bulge 0, end (2,4), forward", but for its offset and its end
+unfoldable pub like-R : ℕ → Vector2 → PlineViewData
+like-R offset p =
     record {
       «start_index» = 0;
-      «end_index_offset» = 2;
-      «updated_start» = record { x = n1; y = n0; bulge = n0 };
-      «updated_end_bulge» = n0;
-      «end_point» = record { x = n2; y = n4 };
+      «end_index_offset» = offset;
+      «updated_start» = vertexAt one zero zero;
+      «updated_end_bulge» = zero;
+      «end_point» = p;
       «inverted_direction» = false;
     }
+
+abbrev pub R : PlineViewData
+R = like-R 2 (vec two four)

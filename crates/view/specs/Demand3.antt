@@ -5,50 +5,52 @@ use mathlib.Core.List.{List, _++_}
 use Prim.Native.Nat.{ℕ, _*_, _-_, _<_, _≤_}
 use lib.ListN.{length, drop}
 use lib.Dec.{T, ltb}
-use lib.Ieee.{Float, neg, toBits, fits, binary64}
+use lib.Ieee.{Float, neg, toBits, fits}
 use Rattle.real.specs.Refusal.{badTrim}
 use Rattle.real.specs.Reply.{Reply, refused, given}
-use Rattle.plane.specs.Grade.{double}
+use Rattle.plane.specs.Grade.{Grade}
 use Rattle.view.specs.Plain.{Vert, Step, turn, trim, flat, rowList}
 use Rattle.view.specs.Record.{listed}
 use Rattle.view.specs.Answers.{listOf, listBuffer, reverseOf, trimOf}
 use Rattle.view.specs.Rows.{step, row}
 use Rattle.view.specs.declared.view_data.PlineViewData.{PlineViewData}
 
--- "a record that lists without refusal": with some buffer the library answers a count
-pub record Unrefused (s : List Float) (d : PlineViewData) : Type 0 where
-  pub buffer : ℕ
-  pub count : ℕ
-  pub answer : listOf double s d buffer ≡ given count
-
--- two f64 of "equal bits"
-pub record SameBits (x y : Float) : Type 0 where
-  pub first : T (fits binary64 x)
-  pub second : T (fits binary64 y)
-  pub bits : toBits binary64 x ≡ toBits binary64 y
+-- two numbers of the format with "equal bits"
+pub record SameBits (g : Grade) (x y : Float) : Type 0 where
+  pub first : T (fits (g .format) x)
+  pub second : T (fits (g .format) y)
+  pub bits : toBits (g .format) x ≡ toBits (g .format) y
 
 -- "if its offset is 0, its two bulges have equal bits"
-abbrev pub Even : PlineViewData → Type 0
-Even d = d .«end_index_offset» ≡ 0 → SameBits (d .«updated_start» .bulge) (d .«updated_end_bulge»)
+abbrev pub Even : Grade → PlineViewData → Type 0
+Even g d = d .«end_index_offset» ≡ 0 → SameBits g (d .«updated_start» .bulge) (d .«updated_end_bulge»)
 
--- the record lists l: into any buffer with room the library writes l from the start, and answers how many vertices l has
-pub record Lists (s : List Float) (d : PlineViewData) (l : List (Vert Float)) : Type 0 where
-  pub answer : (m : ℕ) → 3 * length l ≤ m → listOf double s d m ≡ given (length l)
-  pub buffer : (out : List Float) → 3 * length l ≤ length out → listBuffer double s d out ≡ flat l ++ drop (3 * length l) out
+module _ (g : Grade) (s : List Float) where
+  -- "a record that lists without refusal": with some buffer the library answers a count
+  pub record Unrefused (d : PlineViewData) : Type 0 where
+    pub buffer : ℕ
+    pub count : ℕ
+    pub answer : listOf g s d buffer ≡ given count
 
--- what is said of each record d on the way, which lists l
-pub record Kept (s : List Float) (d : PlineViewData) (l : List (Vert Float)) : Type 0 where
-  pub lists : Lists s d l
-  -- a reversal is given
-  pub turned : reverseOf double s d ≡ given (step s turn d)
-  -- "of n vertices [a trim] is refused exactly when 0 <= i < j < n does not hold, and a refused trim changes nothing"
-  pub trimmed : (i j : ℕ) → i < j → j < length l → trimOf double s d i j ≡ given (step s (trim i j) d)
-  pub refusal : (i j : ℕ) → (ltb i j && ltb j (length l)) ≡ false → trimOf double s d i j ≡ refused badTrim
-  pub unchanged : (i j : ℕ) → (ltb i j && ltb j (length l)) ≡ false → step s (trim i j) d ≡ d
-  -- "Reversing twice changes nothing, and trim i to j after a reversal is trim n-1-j to n-1-i before it."
-  pub twice : step s turn (step s turn d) ≡ d
-  pub mirrored : (i j : ℕ) → i < j → j < length l → step s (trim i j) (step s turn d) ≡ step s turn (step s (trim (length l - 1 - j) (length l - 1 - i)) d)
+  -- the record lists l: into any buffer with room the library writes l from the start, and answers how many vertices l has
+  pub record Lists (d : PlineViewData) (l : List (Vert Float)) : Type 0 where
+    pub answer : (m : ℕ) → 3 * length l ≤ m → listOf g s d m ≡ given (length l)
+    pub buffer : (out : List Float) → 3 * length l ≤ length out → listBuffer g s d out ≡ flat l ++ drop (3 * length l) out
 
--- "Apply any row of reversals and trims. Each resulting record lists what the same steps do to the plain list."
-pub record Demand3 (s : List Float) (d : PlineViewData) : Type 0 where
-  pub rows : (ts : List Step) → Kept s (row s ts d) (rowList neg (double .zero) ts (listed double s d))
+  -- what is said of each record d on the way, and of l, which is what the same steps do to the plain list
+  pub record Kept (d : PlineViewData) (l : List (Vert Float)) : Type 0 where
+    -- "Each resulting record lists what the same steps do to the plain list."
+    pub lists : Lists d l
+    -- a reversal is given
+    pub turned : reverseOf g s d ≡ given (step g s turn d)
+    -- "of n vertices [a trim] is refused exactly when 0 <= i < j < n does not hold, and a refused trim changes nothing"
+    pub trimmed : (i j : ℕ) → i < j → j < length l → trimOf g s d i j ≡ given (step g s (trim i j) d)
+    pub refusal : (i j : ℕ) → (ltb i j && ltb j (length l)) ≡ false → trimOf g s d i j ≡ refused badTrim
+    pub unchanged : (i j : ℕ) → (ltb i j && ltb j (length l)) ≡ false → step g s (trim i j) d ≡ d
+    -- "Reversing twice changes nothing, and trim i to j after a reversal is trim n-1-j to n-1-i before it."
+    pub twice : step g s turn (step g s turn d) ≡ d
+    pub mirrored : (i j : ℕ) → i < j → j < length l → step g s (trim i j) (step g s turn d) ≡ step g s turn (step g s (trim (length l - 1 - j) (length l - 1 - i)) d)
+
+  -- "Apply any row of reversals and trims."
+  pub record Demand3 (d : PlineViewData) : Type 0 where
+    pub rows : (ts : List Step) → Kept (row g s ts d) (rowList neg (g .zero) ts (listed g s d))

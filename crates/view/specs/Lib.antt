@@ -2,9 +2,14 @@ pub mod Plain
 pub mod View
 pub mod Outline
 pub mod Record
+pub mod Segment
+pub mod Validation
 pub mod Needs
+pub mod Create
 pub mod Check
 pub mod Answers
 pub mod Rows
 pub mod Demand3
 pub mod Cases
+pub mod Cut
+pub mod Table

@@ -2,7 +2,7 @@
 use mathlib.Core.List.{List, [], _∷_}
 use lib.Ieee.{Float}
 use Rattle.real.specs.Reply.{Reply, refused, given}
-use Rattle.plane.specs.Grade.{double}
+use Rattle.plane.specs.Grade.{Grade}
 use Rattle.view.specs.Plain.{Step, turn, trim}
 use Rattle.view.specs.Answers.{reverseOf, trimOf}
 use Rattle.view.specs.declared.view_data.PlineViewData.{PlineViewData}
@@ -11,10 +11,11 @@ abbrev pub after : PlineViewData → Reply PlineViewData → PlineViewData
 after d (given r) = r
 after d (refused n) = d
 
-unfoldable pub step : List Float → Step → PlineViewData → PlineViewData
-step s turn d = after d (reverseOf double s d)
-step s (trim i j) d = after d (trimOf double s d i j)
+module _ (g : Grade) (s : List Float) where
+  unfoldable pub step : Step → PlineViewData → PlineViewData
+  step turn d = after d (reverseOf g s d)
+  step (trim i j) d = after d (trimOf g s d i j)
 
-unfoldable pub row : List Float → List Step → PlineViewData → PlineViewData
-row s [] d = d
-row s (t ∷ ts) d = row s ts (step s t d)
+  unfoldable pub row : List Step → PlineViewData → PlineViewData
+  row [] d = d
+  row (t ∷ ts) d = row ts (step t d)

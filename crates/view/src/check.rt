@@ -12,6 +12,8 @@ use real::BAD_OUTLINE;
 use real::bits;
 ghost use mathlib.Core.Path.{_≡_};
 ghost use Rattle.plane.specs.Grade.{double};
+ghost use mathlib.Core.Bool.{_&&_};
+ghost use Rattle.view.specs.Outline.{numbersOk};
 ghost use Rattle.view.specs.Record.{recordOk, evenBits};
 ghost use Rattle.view.specs.Check.{pass, checkReply, placeOf, checkOf};
 
@@ -45,6 +47,13 @@ pub fn check_place(source: &[f64], d: PlineViewData) -> Check
     Check::Passed
 }
 
+// Whether every number of an outline and a record is in range.
+pub fn numbers_in_range(source: &[f64], d: PlineViewData) -> bool
+    ensures { λ r. ⌜ r ≡ (numbersOk double (now (source .entry)) && recordOk double d) ⌝ }
+{
+    vertices_in_range(source) && record_in_range(d)
+}
+
 // What every view call checks first, but lookup by position and validation.
 pub fn check_view(source: &[f64], d: PlineViewData) -> Check
     ensures { λ r. ⌜ checkReply r ≡ checkOf double (now (source .entry)) d pass ⌝ }
@@ -52,7 +61,7 @@ pub fn check_view(source: &[f64], d: PlineViewData) -> Check
     if !serves_views(source) {
         return Check::Refused(BAD_OUTLINE);
     }
-    if !(vertices_in_range(source) && record_in_range(d)) {
+    if !numbers_in_range(source, d) {
         return Check::Refused(BAD_NUMBER);
     }
     check_place(source, d)

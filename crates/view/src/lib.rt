@@ -1,14 +1,24 @@
 // Views of an outline: the record, lookup by position, listing, reversal and trim.
 mod check;
+mod create;
+mod ending;
 mod list;
 mod lookup;
+mod new_start;
 mod outline;
 mod part;
 mod pline_view;
+mod segment;
+mod validate;
+mod validation;
 mod view_data;
 
 pub use pline_view::PlineView;
 pub use pline_view::vertex_through_view;
+pub use validation::Mark;
+pub use validation::MarkAnswer;
+pub use validation::ValidationAnswer;
+pub use validation::ViewDataValidation;
 pub use view_data::CountAnswer;
 pub use view_data::PlineViewData;
 pub use view_data::ViewAnswer;

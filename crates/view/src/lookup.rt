@@ -1,4 +1,5 @@
 // A view's vertex by position: the crate's `get_vertex`, past its checks.
+use crate::check::record_in_range;
 use crate::outline::fwd_wrapping_index;
 use crate::outline::vertex_at;
 use crate::view_data::PlineViewData;
@@ -6,7 +7,8 @@ use plane::PlineVertex;
 use plane::vertex_in_range;
 ghost use mathlib.Core.Path.{_≡_};
 ghost use Rattle.plane.specs.Grade.{double};
-ghost use Rattle.view.specs.Record.{forwardOf, backwardOf, vertexAtOf, pastOk, readsOk};
+ghost use mathlib.Core.Bool.{_&&_};
+ghost use Rattle.view.specs.Record.{forwardOf, backwardOf, vertexAtOf, recordOk, pastOk, readsOk};
 ghost use Rattle.view.specs.Outline.{countOf};
 ghost use Rattle.view.specs.Needs.{Wraps, PlacedAt};
 
@@ -80,17 +82,29 @@ fn past_in_range(source: &[f64], start: usize, steps: usize) -> bool
 }
 
 // Whether the source vertices that position k reads are in range.
-pub fn reads_in_range(source: &[f64], d: PlineViewData, k: usize) -> bool
+fn reads_in_range(source: &[f64], d: PlineViewData, k: usize) -> bool
     requires { ⌜ PlacedAt (now source) d k ⌝ }
     ensures { λ r. ⌜ r ≡ readsOk double (now (source .entry)) d k ⌝ }
 {
     let offset = d.end_index_offset;
     let start = d.start_index;
-    if k == 0 || offset < k {
+    if k == 0 {
+        return true;
+    }
+    if offset < k {
         return true;
     }
     if !d.inverted_direction {
         return past_in_range(source, start, k);
     }
-    past_in_range(source, start, offset + 1 - k) && (k == offset || past_in_range(source, start, offset - k))
+    past_in_range(source, start, offset + 1 - k)
+        && (k == offset || past_in_range(source, start, offset - k))
+}
+
+// Whether every number that a lookup of position k reads is in range.
+pub fn lookup_in_range(source: &[f64], d: PlineViewData, k: usize) -> bool
+    requires { ⌜ PlacedAt (now source) d k ⌝ }
+    ensures { λ r. ⌜ r ≡ (recordOk double d && readsOk double (now (source .entry)) d k) ⌝ }
+{
+    record_in_range(d) && reads_in_range(source, d, k)
 }

@@ -3,9 +3,8 @@ use crate::check::Check;
 use crate::check::check_place;
 use crate::check::check_view;
 use crate::check::has_even_bulges;
-use crate::check::record_in_range;
 use crate::list::write_list;
-use crate::lookup::reads_in_range;
+use crate::lookup::lookup_in_range;
 use crate::lookup::vertex_of;
 use crate::outline::serves_views;
 use crate::part::part;
@@ -63,7 +62,7 @@ impl PlineViewData {
         if index >= offset + 2 {
             return VertexAnswer::Refused(BAD_INDEX);
         }
-        if !(record_in_range(self) && reads_in_range(source, self, index)) {
+        if !lookup_in_range(source, self, index) {
             return VertexAnswer::Refused(BAD_NUMBER);
         }
         VertexAnswer::Given(vertex_of(source, self, index))
@@ -126,7 +125,10 @@ impl PlineViewData {
             return ViewAnswer::Refused(UNEVEN_BULGES);
         }
         let offset = self.end_index_offset;
-        if j <= i || j >= offset + 2 {
+        if j <= i {
+            return ViewAnswer::Refused(BAD_TRIM);
+        }
+        if j >= offset + 2 {
             return ViewAnswer::Refused(BAD_TRIM);
         }
         if self.inverted_direction {

@@ -1,3 +1,4 @@
+-- `ofBits` of a pattern with the sign's bit cleared is the magnitude.
 use mathlib.Core.Path.{sym, ap, _∙_, subst}
 use lib.Dec.{T}
 use lib.Ieee.{binary64, ofBits}
@@ -19,7 +20,7 @@ returns c =
     let a = c .before in
     let x = a .before .args .x in
     c .from-bits .ensures
-    ∙ abs-bits (a .bits .result)
+    ∙ abs-bits binary64 (a .bits .result)
     ∙ ap absOf (ap (ofBits binary64) (a .bits .ensures) ∙ ofBits-toBits binary64 x (subst T (sym (a .before .good .0 .1)) tt))
 
 pub magnitude-spec : {M : Type 1} → statement M

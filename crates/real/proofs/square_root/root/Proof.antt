@@ -1,3 +1,4 @@
+-- The zeros and the infinity are their own roots, `root_bits` has the root of every other number above zero, and the rest have none.
 use mathlib.Core.Path.{sym, ap, _∙_, subst}
 use native.Mathlib.Omega.{arith}
 use lib.Dec.{T}
@@ -25,22 +26,22 @@ from-bits-requires c κs = search needs
 returns : tie.Need-returns
 returns c =
     let a = c .before .before in
-    own-root (a .before .args .x) 0 (held (a .before)) (sym (c .if2 .taken) ∙ a .bits .ensures) root-zero
+    own-root binary64 (a .before .args .x) 0 (held (a .before)) (sym (c .if2 .taken) ∙ a .bits .ensures) (root-zero binary64)
 
 returns-2 : tie.Need-returns-2
 returns-2 c =
     let a = c .before .before .before .before in
-    c .from-bits .ensures ∙ c .before .root-bits .ensures .1 ∙ ap (rootOf binary64) (pattern-of (a .before .args .x) (a .bits .result) (held (a .before)) (a .bits .ensures))
+    c .from-bits .ensures ∙ c .before .root-bits .ensures .1 ∙ ap (rootOf binary64) (pattern-of binary64 (a .before .args .x) (a .bits .result) (held (a .before)) (a .bits .ensures))
 
 returns-3 : tie.Need-returns-3
 returns-3 c =
     let a = c .before .before in
-    own-root (a .before .args .x) 0x7ff0_0000_0000_0000 (held (a .before)) (sym (c .if3 .taken) ∙ a .bits .ensures) root-infinity
+    own-root binary64 (a .before .args .x) 0x7ff0_0000_0000_0000 (held (a .before)) (sym (c .if3 .taken) ∙ a .bits .ensures) (root-infinity binary64)
 
 returns-4 : tie.Need-returns-4
 returns-4 c =
     let a = c .before .before .before in
-    own-root (a .before .args .x) 0x8000_0000_0000_0000 (held (a .before)) (sym (c .if4 .taken) ∙ a .bits .ensures) root-minus-zero
+    own-root binary64 (a .before .args .x) 0x8000_0000_0000_0000 (held (a .before)) (sym (c .if4 .taken) ∙ a .bits .ensures) (root-minus-zero binary64)
 
 returns-5 : tie.Need-returns-5
 returns-5 c =
@@ -48,9 +49,9 @@ returns-5 c =
     let x = a .before .args .x in
     let b = a .bits .result in
     let t = held (a .before) in
-    zero-by-zero
-    ∙ sym (root-none b (pattern-lt x b t (a .bits .ensures)) (omega arith) (c .if4 .left))
-    ∙ ap (rootOf binary64) (pattern-of x b t (a .bits .ensures))
+    zero-by-zero binary64
+    ∙ sym (root-none binary64 b (pattern-lt binary64 x b t (a .bits .ensures)) (omega arith) (c .if4 .left))
+    ∙ ap (rootOf binary64) (pattern-of binary64 x b t (a .bits .ensures))
 
 pub root-spec : {M : Type 1} → statement M
 root-spec =

@@ -1,3 +1,4 @@
+-- Zimmermann's step: the quotient is the new digits, or one more than they are, which the square of it tells.
 use Prim.Native.Nat.{_+_, _*_, _/_, _%_}
 use native.Mathlib.Omega.{arith}
 use Rattle.real.proofs.Squares.{Split, split, Room, room, extend-up, extend-down, some}

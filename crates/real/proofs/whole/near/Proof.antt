@@ -1,3 +1,4 @@
+-- `extend` has the root s and the rest r of m * 2 ^ 52, and the nearest whole number is s + 1 where r is above s.
 use mathlib.Core.Path.{_≡_}
 use Prim.Native.Nat.{ℕ, _+_, _*_, _^_}
 use native.Mathlib.Omega.{arith}

@@ -1,76 +1,53 @@
+-- Each return is the place of `Views` that the tests before it show.
+use mathlib.Core.Path.{_≡_, sym, ap, ap₂, _∙_}
+use Prim.Native.Nat.{ℕ, _+_, _%_}
+use native.Mathlib.Omega.{arith}
 use borrow.Author.Needs.{needs}
+use denote.Ref.{now}
+use lib.Ieee.{neg}
+use Rattle.plane.specs.Grade.{double}
+use Rattle.plane.specs.Vertex.{withBulgeOf}
+use Rattle.plane.specs.declared.pline_vertex.PlineVertex.{PlineVertex}
+use Rattle.view.specs.View.{wrapped}
+use Rattle.view.specs.Outline.{vertexOf, countOf, ofVert}
+use Rattle.view.specs.Record.{viewOf, backwardOf}
+use Rattle.view.proofs.Views.{back-first, back-inner, back-final, back-past}
 use Rattle.view.proofs.lookup.backward.Statement.{statement}
 use Rattle.view.proofs.lookup.backward.Tie as tie
 
-from-vector2-requires : tie.Need-from-vector2-requires
-from-vector2-requires c κs = search needs
-
 returns : tie.Need-returns
-returns c = ?
-
-sub-fwd-wrapping-index : tie.Need-sub-fwd-wrapping-index
-sub-fwd-wrapping-index c = search needs
-
-fwd-wrapping-index-requires : tie.Need-fwd-wrapping-index-requires
-fwd-wrapping-index-requires c κs = search needs
-
-fwd-wrapping-index-requires-2 : tie.Need-fwd-wrapping-index-requires-2
-fwd-wrapping-index-requires-2 c κs = search needs
-
-vertex-at-requires : tie.Need-vertex-at-requires
-vertex-at-requires c κs = search needs
-
-vertex-at-requires-2 : tie.Need-vertex-at-requires-2
-vertex-at-requires-2 c κs = search needs
-
-with-bulge-requires : tie.Need-with-bulge-requires
-with-bulge-requires c κs = search needs
+returns c =
+    let b = c .before .before .before .before .before in
+    c .from-vector2 .ensures
+    ∙ sym (ap (backwardOf double (now (b .args .source)) (b .args .d)) (c .before .before .before .if1 .taken) ∙ ap ofVert (back-first _ _ _ _ (viewOf (b .args .d))))
 
 returns-2 : tie.Need-returns-2
-returns-2 c = ?
-
-sub-fwd-wrapping-index-2 : tie.Need-sub-fwd-wrapping-index-2
-sub-fwd-wrapping-index-2 c = search needs
-
-add-fwd-wrapping-index : tie.Need-add-fwd-wrapping-index
-add-fwd-wrapping-index c = search needs
-
-fwd-wrapping-index-requires-3 : tie.Need-fwd-wrapping-index-requires-3
-fwd-wrapping-index-requires-3 c κs = search needs
-
-vertex-at-requires-3 : tie.Need-vertex-at-requires-3
-vertex-at-requires-3 c κs = search needs
-
-with-bulge-requires-2 : tie.Need-with-bulge-requires-2
-with-bulge-requires-2 c κs = search needs
+returns-2 c =
+    let w = c .before .before .before .before .before in
+    let b = w .before .before .before .before in
+    let s = now (b .args .source) in
+    let to = w .fwd-wrapping-index .ensures .is in
+    c .with-bulge .ensures
+    ∙ ap₂ (λ (v u : PlineVertex). withBulgeOf v (neg (u .bulge)))
+    (c .before .before .vertex-at2 .ensures ∙ ap (vertexOf s) (c .before .before .before .before .fwd-wrapping-index2 .ensures .is ∙ ap (λ (i : ℕ). wrapped i 1 (countOf s)) to))
+    (c .before .before .before .vertex-at .ensures ∙ ap (vertexOf s) to)
+    ∙ sym (ap ofVert (back-inner _ _ _ _ (viewOf (b .args .d)) (b .args .k) (omega arith) (omega arith)))
 
 returns-3 : tie.Need-returns-3
-returns-3 c = ?
-
-with-bulge-requires-3 : tie.Need-with-bulge-requires-3
-with-bulge-requires-3 c κs = search needs
+returns-3 c =
+    let b = c .before .before .before .before .before .before .before .before .before in
+    c .with-bulge2 .ensures
+    ∙ ap (λ (v : PlineVertex). withBulgeOf v (neg (b .args .d .«updated_start» .bulge)))
+    (c .before .before .vertex-at3 .ensures ∙ ap (vertexOf (now (b .args .source))) (c .before .before .before .fwd-wrapping-index3 .ensures .is))
+    ∙ sym (ap ofVert (back-final _ _ _ _ (viewOf (b .args .d)) (b .args .k) (omega arith) (c .before .before .before .before .if3 .taken)))
 
 returns-4 : tie.Need-returns-4
-returns-4 c = ?
+returns-4 c =
+    let b = c .before .before .before .before .before .before in
+    c .with-bulge3 .ensures ∙ sym (ap ofVert (back-past _ _ _ _ (viewOf (b .args .d)) (b .args .k) (omega arith)))
 
 pub backward-spec : {M : Type 1} → statement M
 backward-spec =
     tie.close
-    (tie.spec
-    from-vector2-requires
-    returns
-    sub-fwd-wrapping-index
-    fwd-wrapping-index-requires
-    fwd-wrapping-index-requires-2
-    vertex-at-requires
-    vertex-at-requires-2
-    with-bulge-requires
-    returns-2
-    sub-fwd-wrapping-index-2
-    add-fwd-wrapping-index
-    fwd-wrapping-index-requires-3
-    vertex-at-requires-3
-    with-bulge-requires-2
-    returns-3
-    with-bulge-requires-3
-    returns-4)
+    (tie.spec (λ c κs. tt) returns (λ c. search needs) (λ c κs. search needs) (λ c κs. search needs) (λ c κs. search needs) (λ c κs. search needs) (λ c κs. tt) returns-2
+    (λ c. search needs) (λ c. search needs) (λ c κs. search needs) (λ c κs. search needs) (λ c κs. tt) returns-3 (λ c κs. tt) returns-4)

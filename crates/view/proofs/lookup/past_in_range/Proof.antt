@@ -1,20 +1,19 @@
+-- The range test of the vertex at the wrapped number.
+use mathlib.Core.Path.{ap, _∙_}
 use borrow.Author.Needs.{needs}
+use denote.Ref.{now}
+use Rattle.plane.specs.Grade.{double}
+use Rattle.plane.specs.Range.{vertexOk}
+use Rattle.view.specs.Outline.{vertexOf}
+use Rattle.view.specs.Record.{pastOk}
 use Rattle.view.proofs.lookup.past_in_range.Statement.{statement}
 use Rattle.view.proofs.lookup.past_in_range.Tie as tie
 
-fwd-wrapping-index-requires : tie.Need-fwd-wrapping-index-requires
-fwd-wrapping-index-requires c κs = search needs
-
-vertex-at-requires : tie.Need-vertex-at-requires
-vertex-at-requires c κs = search needs
-
-vertex-in-range-requires : tie.Need-vertex-in-range-requires
-vertex-in-range-requires c κs = search needs
-
 returns : tie.Need-returns
-returns c = ?
+unfolding pastOk
+returns c =
+    let b = c .before .before .before .before in
+    c .vertex-in-range .ensures ∙ ap (vertexOk double) (c .before .vertex-at .ensures ∙ ap (vertexOf (now (b .args .source))) (c .before .before .fwd-wrapping-index .ensures .is))
 
 pub past-in-range-spec : {M : Type 1} → statement M
-past-in-range-spec =
-    tie.close
-    (tie.spec fwd-wrapping-index-requires vertex-at-requires vertex-in-range-requires returns)
+past-in-range-spec = tie.close (tie.spec (λ c κs. search needs) (λ c κs. search needs) (λ c κs. tt) returns)

@@ -1,52 +1,57 @@
+-- Each return is the definition's case that the tests before it show.
+use mathlib.Core.Path.{_≡_, sym, _∙_}
+use mathlib.Core.Bool.{_&&_, _||_}
+use Prim.Native.Nat.{_+_, _-_}
+use lib.Dec.{eqb}
 use borrow.Author.Needs.{needs}
+use borrow.Author.Tests.{eq-eqb, ne-eqb, lt-ltb, le-ltb, not-true, not-false}
+use denote.Ref.{now}
+use Rattle.plane.specs.Grade.{double}
+use Rattle.view.specs.Record.{pastOk, readsOk}
 use Rattle.view.proofs.lookup.reads_in_range.Statement.{statement}
 use Rattle.view.proofs.lookup.reads_in_range.Tie as tie
 
 returns : tie.Need-returns
-returns c = ?
-
-past-in-range-requires : tie.Need-past-in-range-requires
-past-in-range-requires c κs = ?
+unfolding readsOk
+returns c = simp (eq-eqb _ _ (c .if1 .taken))
 
 returns-2 : tie.Need-returns-2
-returns-2 c = ?
-
-add-past-in-range : tie.Need-add-past-in-range
-add-past-in-range c = search needs
-
-sub-past-in-range : tie.Need-sub-past-in-range
-sub-past-in-range c = search needs
-
-past-in-range-requires-2 : tie.Need-past-in-range-requires-2
-past-in-range-requires-2 c κs = search needs
-
-sub-past-in-range-2 : tie.Need-sub-past-in-range-2
-sub-past-in-range-2 c = search needs
-
-past-in-range-requires-3 : tie.Need-past-in-range-requires-3
-past-in-range-requires-3 c κs = search needs
+unfolding readsOk
+returns-2 c = simp (ne-eqb _ _ (c .before .if1 .left), lt-ltb _ _ (c .if2 .taken))
 
 returns-3 : tie.Need-returns-3
-returns-3 c = ?
+unfolding readsOk
+returns-3 c =
+    let b = c .before .before .before in
+    simp (ne-eqb _ _ (b .before .if1 .left), le-ltb _ _ (b .if2 .left), not-true (b .before .before .before .args .d .«inverted_direction») (c .before .if3 .taken)) (c .past-in-range .ensures)
+
+-- the case of an inverted view
+inverted : (c : tie.Else3) → let a = c .before .before .before .before .before .args in
+    let start = a .d .«start_index» in
+    let offset = a .d .«end_index_offset» in
+    readsOk double (now (a .source)) (a .d) (a .k)
+    ≡ (pastOk double (now (a .source)) start (offset + 1 - a .k) && (eqb (a .k) offset || pastOk double (now (a .source)) start (offset - a .k)))
+unfolding readsOk
+inverted c =
+    let b = c .before .before in
+    simp (ne-eqb _ _ (b .before .if1 .left), le-ltb _ _ (b .if2 .left), not-false (b .before .before .before .args .d .«inverted_direction») (c .if3 .left))
 
 returns-4 : tie.Need-returns-4
-returns-4 c = ?
+returns-4 c =
+    let p = c .before .before in
+    sym (inverted (p .before) ∙ simp (sym (p .past-in-range2 .ensures) ∙ c .before .if4 .taken, eq-eqb _ _ (c .if5 .taken)))
 
 returns-5 : tie.Need-returns-5
-returns-5 c = ?
+returns-5 c =
+    let p = c .before .before .before in
+    c .past-in-range3 .ensures ∙ sym (inverted (p .before) ∙ simp (sym (p .past-in-range2 .ensures) ∙ c .before .before .if4 .taken, ne-eqb _ _ (c .before .if5 .left)))
+
+returns-6 : tie.Need-returns-6
+returns-6 c =
+    let p = c .before in
+    c .if4 .left ∙ sym (inverted (p .before) ∙ simp (sym (p .past-in-range2 .ensures) ∙ c .if4 .left))
 
 pub reads-in-range-spec : {M : Type 1} → statement M
 reads-in-range-spec =
     tie.close
-    (tie.spec
-    returns
-    past-in-range-requires
-    returns-2
-    add-past-in-range
-    sub-past-in-range
-    past-in-range-requires-2
-    sub-past-in-range-2
-    past-in-range-requires-3
-    returns-3
-    returns-4
-    returns-5)
+    (tie.spec returns returns-2 (λ c κs. search needs) returns-3 (λ c. search needs) (λ c. search needs) (λ c κs. search needs) (λ c κs. search needs) returns-4 returns-5 returns-6)

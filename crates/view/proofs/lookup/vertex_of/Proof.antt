@@ -1,18 +1,32 @@
+-- The direction's own lookup.
 use borrow.Author.Needs.{needs}
+use mathlib.Core.Path.{sym, ap, _∙_}
+use mathlib.Core.Bool.{Bool, cond}
+use denote.Ref.{now}
+use lib.Ieee.{neg}
+use Rattle.plane.specs.Grade.{double}
+use Rattle.plane.specs.declared.pline_vertex.PlineVertex.{PlineVertex}
+use Rattle.view.specs.View.{vertexAt, forward, backward}
+use Rattle.view.specs.Outline.{countOf, srcOf, ofVert}
+use Rattle.view.specs.Record.{viewOf}
 use Rattle.view.proofs.lookup.vertex_of.Statement.{statement}
 use Rattle.view.proofs.lookup.vertex_of.Tie as tie
 
-backward-requires : tie.Need-backward-requires
-backward-requires c κs = search needs
-
-forward-requires : tie.Need-forward-requires
-forward-requires c κs = search needs
+module _ (c : tie.Start) where
+  -- the vertex of the direction t
+  abbrev pick : Bool → PlineVertex
+  pick t =
+      let s = now (c .args .source) in
+      let r = viewOf (c .args .d) in
+      ofVert (cond t (backward neg (double .zero) (srcOf s) (countOf s) r (c .args .k)) (forward (double .zero) (srcOf s) (countOf s) r (c .args .k)))
 
 returns : tie.Need-returns
-returns c = ?
+unfolding vertexAt
+returns c = c .backward .ensures ∙ sym (ap (pick (c .before .before .before)) (c .before .if1 .taken))
 
 returns-2 : tie.Need-returns-2
-returns-2 c = ?
+unfolding vertexAt
+returns-2 c = c .forward .ensures ∙ sym (ap (pick (c .before .before .before)) (c .before .if1 .left))
 
 pub vertex-of-spec : {M : Type 1} → statement M
-vertex-of-spec = tie.close (tie.spec backward-requires forward-requires returns returns-2)
+vertex-of-spec = tie.close (tie.spec (λ c κs. search needs) (λ c κs. search needs) returns returns-2)

@@ -1,47 +1,47 @@
+-- The loop's invariant: each vertex passed is in range.
+use mathlib.Core.Path.{_≡_, refl, sym, ap, _∙_}
+use mathlib.Core.Bool.{true}
+use Prim.Native.Nat.{_-_, _≤_}
+use native.Mathlib.Omega.{arith}
+use denote.Ref.{now}
+use Rattle.real.proofs.Pick.{passed, failed}
+use Rattle.plane.specs.Grade.{double}
+use Rattle.plane.specs.Range.{vertexOk}
+use Rattle.view.specs.Outline.{countOf, vertexOf, all, numbersOk}
+use Rattle.view.proofs.All.{all-more, all-not}
 use Rattle.view.proofs.outline.vertices_in_range.Statement.{statement}
 use Rattle.view.proofs.outline.vertices_in_range.Tie as tie
 
 abbrev Inv-loop : tie.InvT-loop
-Inv-loop source count k₀ k = ?
+Inv-loop source count k₀ k = (k ≤ count) × (all (λ i. vertexOk double (vertexOf source i)) k ≡ true)
 
 abbrev μ-loop : tie.MeasureT-loop
-μ-loop source count k₀ k = ?
+μ-loop source count k₀ k = count - k
 
 loop-holds : tie.Need-loop-holds Inv-loop μ-loop
-loop-holds c = ?
-
-vertex-at-requires : tie.Need-vertex-at-requires Inv-loop μ-loop
-vertex-at-requires c κs = ?
-
-vertex-in-range-requires : tie.Need-vertex-in-range-requires Inv-loop μ-loop
-vertex-in-range-requires c κs = ?
+unfolding all
+loop-holds c = (omega arith, refl)
 
 returns : tie.Need-returns Inv-loop μ-loop
-returns c = ?
-
-add-k : tie.Need-add-k Inv-loop μ-loop
-add-k c = ?
-
-loop-less : tie.Need-loop-less Inv-loop μ-loop
-loop-less c = ?
+unfolding numbersOk
+returns c =
+    sym (all-not _ _ (c .before .before .before .before .loop .k) (c .before .before .before .loop-test .taken)
+    (ap (vertexOk double) (sym (c .before .before .vertex-at .ensures)) ∙ failed (c .before .vertex-in-range .ensures) (c .if1 .taken)))
 
 loop-again : tie.Need-loop-again Inv-loop μ-loop
-loop-again c = ?
+loop-again c = (
+  omega arith,
+  all-more _ (c .before .before .before .before .loop .k) (c .before .before .before .before .loop .inv .1)
+      (ap (vertexOk double) (sym (c .before .before .vertex-at .ensures)) ∙ passed (c .before .vertex-in-range .ensures) (c .if1 .left)),
+)
 
 returns-2 : tie.Need-returns-2 Inv-loop μ-loop
-returns-2 c = ?
+unfolding numbersOk
+returns-2 c =
+    let s = now (c .before .before .before .args .source) in
+    let e : c .before .loop .k ≡ countOf s = omega arith in
+    sym (c .before .loop .inv .1) ∙ ap (all (λ i. vertexOk double (vertexOf s i))) e
 
 pub vertices-in-range-spec : {M : Type 1} → statement M
 vertices-in-range-spec =
-    tie.close
-    (tie.spec
-    Inv-loop
-    μ-loop
-    loop-holds
-    vertex-at-requires
-    vertex-in-range-requires
-    returns
-    add-k
-    loop-less
-    loop-again
-    returns-2)
+    tie.close (tie.spec Inv-loop μ-loop loop-holds (λ c κs. omega arith) (λ c κs. tt) returns (λ c. omega arith) (λ c. omega arith) loop-again returns-2)

@@ -1,44 +1,28 @@
+-- The record is put together from the calls' answers, field by field.
+use mathlib.Core.Path.{ap, _∙_}
+use Prim.Native.Nat.{_-_}
 use borrow.Author.Needs.{needs}
+use Rattle.plane.specs.Vertex.{posOf}
+use Rattle.view.specs.View.{part}
 use Rattle.view.proofs.part.part.Statement.{statement}
 use Rattle.view.proofs.part.part.Tie as tie
 
-fwd-wrapping-index-requires : tie.Need-fwd-wrapping-index-requires
-fwd-wrapping-index-requires c κs = search needs
-
-forward-requires : tie.Need-forward-requires
-forward-requires c κs = search needs
-
-sub-forward : tie.Need-sub-forward
-sub-forward c = search needs
-
-forward-requires-2 : tie.Need-forward-requires-2
-forward-requires-2 c κs = search needs
-
-forward-requires-3 : tie.Need-forward-requires-3
-forward-requires-3 c κs = search needs
-
-pos-requires : tie.Need-pos-requires
-pos-requires c κs = search needs
-
-sub-t10 : tie.Need-sub-t10
-sub-t10 c = search needs
-
-sub-t12 : tie.Need-sub-t12
-sub-t12 c = search needs
-
 returns : tie.Need-returns
-returns c = ?
+unfolding part
+returns c =
+    let b = c .before .before .before .before in
+    let a = b .before .before .args in
+    λ t.
+    record {
+      «start_index» = b .fwd-wrapping-index .ensures .is t;
+      «end_index_offset» = a .b - a .a - 1;
+      «updated_start» = c .before .before .before .forward .ensures t;
+      «updated_end_bulge» = c .before .before .forward2 .ensures t .bulge;
+      «end_point» = (c .pos .ensures ∙ ap posOf (c .before .forward3 .ensures)) t;
+      «inverted_direction» = a .d .«inverted_direction»;
+    }
 
 pub part-spec : {M : Type 1} → statement M
 part-spec =
     tie.close
-    (tie.spec
-    fwd-wrapping-index-requires
-    forward-requires
-    sub-forward
-    forward-requires-2
-    forward-requires-3
-    pos-requires
-    sub-t10
-    sub-t12
-    returns)
+    (tie.spec (λ c κs. search needs) (λ c κs. search needs) (λ c. search needs) (λ c κs. search needs) (λ c κs. search needs) (λ c κs. tt) (λ c. search needs) (λ c. search needs) returns)

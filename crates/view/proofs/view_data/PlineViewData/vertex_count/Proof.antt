@@ -1,25 +1,25 @@
+-- The shared check's refusal, or past it the count.
+use mathlib.Core.Path.{sym, ap, _∙_}
+use native.Mathlib.Omega.{arith}
 use borrow.Author.Needs.{needs}
+use denote.Ref.{now}
+use Rattle.plane.specs.Grade.{double}
+use Rattle.view.specs.Check.{checkReply}
+use Rattle.view.specs.Answers.{vertexCountOf}
+use Rattle.view.proofs.Checks.{Checked, checked, checked-rest, checked-refused}
 use Rattle.view.proofs.view_data.PlineViewData.vertex_count.Statement.{statement}
 use Rattle.view.proofs.view_data.PlineViewData.vertex_count.Tie as tie
 
-check-view-requires : tie.Need-check-view-requires
-check-view-requires c κs = search needs
-
-enum-known-checked : tie.Need-enum-known-checked
-enum-known-checked c = search needs
+clear : (c : tie.After-enum-told) → let a = c .before .before .before .before .args in Checked double (now (a .source)) (a .self)
+clear c = checked double _ _ _ (ap checkReply (sym (c .enum-told .given .1)) ∙ c .before .before .check-view .ensures)
 
 returns : tie.Need-returns
-returns c = ?
-
-enum-told : tie.Need-enum-told
-enum-told c = search needs
-
-add-t6 : tie.Need-add-t6
-add-t6 c = ?
+unfolding vertexCountOf
+returns c = checked-refused double _ _ _ _ (ap checkReply (sym (c .before .checked .given .1)) ∙ c .before .before .before .check-view .ensures)
 
 returns-2 : tie.Need-returns-2
-returns-2 c = ?
+unfolding vertexCountOf
+returns-2 c = sym (checked-rest double _ _ _ (clear c))
 
 pub vertex-count-spec : {M : Type 1} → statement M
-vertex-count-spec =
-    tie.close (tie.spec check-view-requires enum-known-checked returns enum-told add-t6 returns-2)
+vertex-count-spec = tie.close (tie.spec (λ c κs. tt) (λ c. search needs) returns (λ c. search needs) (λ c. omega (arith, clear c .placed)) returns-2)

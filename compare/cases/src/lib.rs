@@ -1,0 +1,12 @@
+//! Cases for every call and whole sheets, made from a seed, and the comparison of a library with the oracle.
+//!
+//! Nothing here needs the library that is judged: it is anything that implements [`oracle::Library`].
+#![forbid(unsafe_code)]
+
+pub mod case;
+pub mod compare;
+pub mod generate;
+pub mod random;
+pub mod rows;
+pub mod sheets;
+pub mod stored;

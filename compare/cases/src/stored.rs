@@ -1,0 +1,224 @@
+//! The stored list of cases: the same on every machine, with the oracle's answers.
+
+use crate::case::{Call, Case};
+use crate::generate::Generator;
+use crate::random::Random;
+use crate::sheets::{largest_outline, whole_view};
+use oracle::record::encode;
+use oracle::{Oracle, PlineVertex, PlineViewData, Vector2};
+
+const SEED: u64 = 2026;
+
+/// Cases for the square root: every exponent, both ends of the subnormals, squares and their neighbours, the hardest
+/// to round, and everything that is refused.
+pub fn roots() -> Vec<Case> {
+    let mut random = Random::new(SEED);
+    let mut radicands = vec![0.0, -0.0, 1.0, 2.0, 4.0, f64::MAX, f64::MIN_POSITIVE];
+
+    for exponent in 1..2047u64 {
+        let fraction = random.bits() >> 12;
+        radicands.push(f64::from_bits(exponent << 52));
+        radicands.push(f64::from_bits(exponent << 52 | fraction));
+    }
+
+    radicands.extend([1, 2, 3, (1 << 52) - 2, (1 << 52) - 1].map(f64::from_bits));
+    for place in 0..52 {
+        let fraction = random.bits() >> (64 - place).min(63);
+        radicands.push(f64::from_bits(1 << place | fraction & ((1 << place) - 1)));
+    }
+
+    for root in 3..20u64 {
+        radicands.push((root * root) as f64);
+    }
+    for _ in 0..20 {
+        let root = (random.bits() >> 38) as f64;
+        let square = root * root;
+        radicands.extend([square.next_down(), square, square.next_up()]);
+    }
+    for _ in 0..60 {
+        // Near the square of a number midway between two floats.
+        let midway = u128::from(random.bits() >> 11 | 1 << 52) * 2 + 1;
+        radicands.push((midway * midway) as f64);
+    }
+
+    let nans = [
+        0x7ff8_0000_0000_0000,
+        0xfff8_0000_0000_0000,
+        0x7ff0_0000_0000_0001,
+        0xfff0_0000_0000_0001,
+        0x7fff_ffff_ffff_ffff,
+        0xffff_ffff_ffff_ffff,
+    ];
+    radicands.extend(nans.map(f64::from_bits));
+    radicands.extend([f64::INFINITY, f64::NEG_INFINITY, -f64::MAX, -1.0]);
+    radicands.extend([-f64::MIN_POSITIVE, -f64::from_bits(1), -4.0]);
+
+    let root = |x: &f64| Case::new(Call::Sqrt).number(*x).room(1);
+    let mut cases: Vec<Case> = radicands.iter().map(root).collect();
+    cases.push(Case::new(Call::Sqrt).number(4.0).room(0));
+    cases.push(Case::new(Call::Sqrt).number(-4.0).room(0));
+    cases.push(Case::new(Call::Sqrt).number(4.0).room(3));
+    cases
+}
+
+/// The cases that document 01 checked by hand, the roots aside.
+fn by_hand() -> Vec<Case> {
+    let h = [0.0, 0.0, 1.0, 1.0, 0.0, 0.0];
+    let p4 = [2.0, 2.0, 1.0, 4.0, 2.0, 0.0];
+    let q = [0.0, 0.0, 0.0, 4.0, 0.0, 0.5, 4.0, 4.0, 0.0, 0.0, 4.0, 0.0];
+    let r = PlineViewData {
+        start_index: 0,
+        end_index_offset: 2,
+        updated_start: PlineVertex::new(1.0, 0.0, 0.0),
+        updated_end_bulge: 0.0,
+        end_point: Vector2::new(2.0, 4.0),
+        inverted_direction: false,
+    };
+    let reversed = PlineViewData {
+        inverted_direction: true,
+        ..r
+    };
+    // What trim 1 to 2 makes of the reversed record.
+    let trimmed = PlineViewData {
+        start_index: 1,
+        end_index_offset: 0,
+        updated_start: PlineVertex::new(4.0, 0.0, 0.5),
+        updated_end_bulge: 0.5,
+        end_point: Vector2::new(4.0, 4.0),
+        inverted_direction: true,
+    };
+    let offset = |end_index_offset| PlineViewData {
+        end_index_offset,
+        ..r
+    };
+    let end_on_vertex = PlineViewData {
+        end_point: Vector2::new(4.0, 4.0),
+        ..r
+    };
+
+    let seg = |call, seg: &[f64]| Case::new(call).numbers(seg);
+    let split = |x, y, eps: f64| {
+        let case = seg(Call::SegSplitAtPoint, &h).number(x).number(y);
+        case.number(eps).room(6)
+    };
+    let farther = |distance: f64| {
+        let case = seg(Call::SegDistanceIsGreaterThan, &h);
+        let case = case.number(0.5).number(0.0).number(distance);
+        case.number(1e-5).room(1)
+    };
+    let tangent = |x, y| {
+        let case = seg(Call::SegTangentVector, &p4);
+        case.number(x).number(y).room(2)
+    };
+    let on_q = |call, record: &PlineViewData| Case::new(call).numbers(&q).bytes(&encode(record));
+    let validate = |record: &PlineViewData| on_q(Call::ViewValidate, record).room(3).room(5);
+    let list = |record: &PlineViewData| on_q(Call::ViewList, record).room(12).room(1);
+    vec![
+        seg(Call::SegArcRadiusAndCenter, &h).room(3),
+        seg(Call::SegBoundingBox, &h).room(4),
+        seg(Call::SegFastApproxBoundingBox, &h).room(4),
+        seg(Call::SegMidpoint, &h).room(2),
+        tangent(3.0, 1.0),
+        tangent(2.0, 2.0),
+        split(3.0, 0.0, 1e-5),
+        split(0.5, -0.5, 1e-5),
+        split(0.5, -0.5, 0.0),
+        farther(0.5),
+        farther(0.25),
+        list(&r),
+        list(&reversed),
+        list(&trimmed),
+        on_q(Call::ViewReverse, &r).room(64),
+        on_q(Call::ViewTrim, &reversed).whole(1).whole(2).room(64),
+        validate(&r),
+        validate(&offset(5)),
+        validate(&offset(4)),
+        validate(&end_on_vertex),
+        on_q(Call::ViewGet, &offset(0)).whole(2).room(3),
+    ]
+}
+
+/// A few cases on long outlines.
+fn long() -> Vec<Case> {
+    let limit = largest_outline();
+    let over = [&limit[..], &[0.0; 3]].concat();
+    let (forward, inverted) = (whole_view(&limit, 1000), whole_view(&limit, 1004));
+    let count = |outline: &[f64]| {
+        let case = Case::new(Call::ViewCount).numbers(outline);
+        case.bytes(&encode(&forward)).room(1)
+    };
+    let on_limit = |call, record| Case::new(call).numbers(&limit).bytes(&encode(record));
+    vec![
+        count(&limit),
+        count(&over),
+        on_limit(Call::ViewList, &forward).room(3 * 1026).room(1),
+        on_limit(Call::ViewList, &inverted).room(3 * 1026).room(1),
+        on_limit(Call::ViewList, &inverted)
+            .room(3 * 1026 - 1)
+            .room(1),
+        on_limit(Call::ViewValidate, &inverted).room(3).room(5),
+        on_limit(Call::ViewGet, &inverted).whole(500).room(3),
+        on_limit(Call::ViewTrim, &inverted)
+            .whole(100)
+            .whole(900)
+            .room(64),
+    ]
+}
+
+/// For every call some cases of each answer: many that answer, some of each refusal and of each verdict.
+fn drawn() -> Vec<Case> {
+    const ANSWERS: usize = 60;
+    const REFUSALS: usize = 6;
+    let mut generator = Generator::small(SEED);
+    let mut cases = Vec::new();
+    for call in Call::ALL {
+        if call == Call::Sqrt {
+            continue;
+        }
+        let mut missing = [0; 13];
+        for refusal in call.refusals() {
+            missing[usize::from(*refusal)] = REFUSALS;
+        }
+        missing[0] = ANSWERS;
+        let mut verdicts = [ANSWERS / 6; 8];
+        while missing.iter().any(|wanted| *wanted > 0) {
+            let case = generator.case_for(call);
+            let outcome = case.run(&Oracle);
+            let wanted = &mut missing[usize::from(outcome.refusal)];
+            if *wanted == 0 {
+                continue;
+            }
+            if call == Call::ViewValidate && outcome.refusal == 0 {
+                let wanted = &mut verdicts[outcome.verdict()];
+                if *wanted == 0 {
+                    continue;
+                }
+                *wanted -= 1;
+            }
+            *wanted -= 1;
+            cases.push(case);
+        }
+    }
+    cases
+}
+
+/// The whole stored list.
+pub fn all() -> Vec<Case> {
+    [roots(), by_hand(), drawn(), long()].concat()
+}
+
+/// A list's stored form, and the oracle's answers to it.
+pub fn files(cases: &[Case]) -> (Vec<u8>, String) {
+    let mut stored = Vec::new();
+    let mut answers = String::new();
+    for (number, case) in cases.iter().enumerate() {
+        stored.extend(case.stored());
+        let outcome = case.run(&Oracle);
+        answers += &format!("{number} {}", outcome.refusal);
+        for word in outcome.written(case.call) {
+            answers += &format!(" {word:016x}");
+        }
+        answers.push('\n');
+    }
+    (stored, answers)
+}

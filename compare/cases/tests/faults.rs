@@ -1,0 +1,427 @@
+//! The comparison finds faults: the oracle is spoilt in one place at a time, and each time the comparison must say so.
+
+use cases::compare::{Report, compare_calls};
+use cases::sheets::compare_sheets;
+use oracle::sheet::sheet_text;
+use oracle::{Library, Oracle, Vector2, record, view};
+
+#[derive(Debug, Clone, Copy, PartialEq)]
+enum Fault {
+    None,
+    // Document 01's easy slips.
+    OffsetEqualToTheCountRefused,
+    BulgesNegatedAtTheirOldVertex,
+    MinusZeroAsLastBulge,
+    FinalVertexTestedWithTheOtherTolerance,
+    // Ranges, order of refusals, buffers.
+    ToleranceEndsRefused,
+    NumberRefusedBeforeLength,
+    EndBulgeNotChecked,
+    RefusalWrites,
+    WritesPastTheList,
+    WritesPastTheRoom,
+    LookupChecksAllVertices,
+    OnlyOneCountsAsClosed,
+    IndexCheckedBeforeTraverse,
+    // One flipped comparison, one lost sign, one ulp.
+    LimitItselfIsALine,
+    TieToTheFirstEnd,
+    AtTheDistanceIsGreater,
+    ZeroLosesItsSign,
+    SubnormalRootsAnUlpOff,
+    TiedRootsRoundedUp,
+    StartNotWrapped,
+    OpenOutlinesHeld,
+    EqualNumbersNotExchanged,
+    SplitAtTheEndOnThePoint,
+    VerdictSixValuesExchanged,
+}
+
+struct Spoilt(Fault);
+
+impl Spoilt {
+    fn is(&self, fault: Fault) -> bool {
+        self.0 == fault
+    }
+
+    /// The list of a record that lists, if it is inverted.
+    fn inverted_list(outline: &[f64], bytes: &[u8]) -> Option<usize> {
+        let record = record::decode(bytes).ok()?;
+        record.inverted_direction.then_some(())?;
+        Some(view::list(outline, &record).ok()?.len())
+    }
+}
+
+fn zero_sign_lost(numbers: &mut [f64]) {
+    for x in numbers {
+        if *x == 0.0 {
+            *x = 0.0;
+        }
+    }
+}
+
+impl Library for Spoilt {
+    fn sqrt(&self, x: f64, out: &mut [f64]) -> u8 {
+        let refusal = Oracle.sqrt(x, out);
+        if refusal == 0 {
+            if self.is(Fault::SubnormalRootsAnUlpOff) && x.is_subnormal() {
+                out[0] = out[0].next_up();
+            }
+            // A root that was rounded down from very near the middle.
+            let error = out[0].mul_add(out[0], -x);
+            let half = out[0] * (out[0].next_up() - out[0]);
+            if self.is(Fault::TiedRootsRoundedUp) && x > 1e-200 && -error > half * (1.0 - 1e-12) {
+                out[0] = out[0].next_up();
+            }
+        }
+        refusal
+    }
+
+    fn vertex(&self, numbers: &[f64], out: &mut [f64]) -> u8 {
+        if self.is(Fault::NumberRefusedBeforeLength) && numbers.iter().any(|x| !x.is_finite()) {
+            return 1;
+        }
+        Oracle.vertex(numbers, out)
+    }
+
+    fn seg_arc_radius_and_center(&self, seg: &[f64], out: &mut [f64]) -> u8 {
+        Oracle.seg_arc_radius_and_center(seg, out)
+    }
+
+    fn seg_split_at_point(
+        &self,
+        seg: &[f64],
+        x: f64,
+        y: f64,
+        tolerance: f64,
+        out: &mut [f64],
+    ) -> u8 {
+        let refusal = Oracle.seg_split_at_point(seg, x, y, tolerance, out);
+        if refusal == 0 && self.is(Fault::SplitAtTheEndOnThePoint) {
+            (out[3], out[4]) = (x, y);
+        }
+        refusal
+    }
+
+    fn seg_tangent_vector(&self, seg: &[f64], x: f64, y: f64, out: &mut [f64]) -> u8 {
+        if self.is(Fault::EndBulgeNotChecked) && seg.len() == 6 {
+            let seg = [seg[0], seg[1], seg[2], seg[3], seg[4], 0.0];
+            return Oracle.seg_tangent_vector(&seg, x, y, out);
+        }
+        Oracle.seg_tangent_vector(seg, x, y, out)
+    }
+
+    fn seg_closest_point(
+        &self,
+        seg: &[f64],
+        x: f64,
+        y: f64,
+        tolerance: f64,
+        out: &mut [f64],
+    ) -> u8 {
+        if self.is(Fault::ToleranceEndsRefused) && tolerance == 1.0 {
+            return 2;
+        }
+        let refusal = Oracle.seg_closest_point(seg, x, y, tolerance, out);
+        if refusal == 0 && self.is(Fault::TieToTheFirstEnd) {
+            let (v1, v2) = (Vector2::new(seg[0], seg[1]), Vector2::new(seg[3], seg[4]));
+            let p = Vector2::new(x, y);
+            let tied = (v1 - p).length_squared() == (v2 - p).length_squared();
+            if tied && out[..2] == seg[3..5] {
+                out[..2].copy_from_slice(&seg[..2]);
+            }
+        }
+        refusal
+    }
+
+    fn seg_distance_is_greater_than(
+        &self,
+        seg: &[f64],
+        x: f64,
+        y: f64,
+        distance: f64,
+        tolerance: f64,
+        out: &mut [u8],
+    ) -> u8 {
+        let nearer = distance.abs().next_down();
+        if self.is(Fault::AtTheDistanceIsGreater) && nearer > 0.0 && distance.abs() <= 1e6 {
+            return Oracle.seg_distance_is_greater_than(seg, x, y, nearer, tolerance, out);
+        }
+        Oracle.seg_distance_is_greater_than(seg, x, y, distance, tolerance, out)
+    }
+
+    fn seg_fast_approx_bounding_box(&self, seg: &[f64], out: &mut [f64]) -> u8 {
+        let refusal = Oracle.seg_fast_approx_bounding_box(seg, out);
+        if refusal == 0 && self.is(Fault::EqualNumbersNotExchanged) && seg[0] == seg[3] {
+            (out[0], out[2]) = (out[2], out[0]);
+        }
+        refusal
+    }
+
+    fn seg_bounding_box(&self, seg: &[f64], out: &mut [f64]) -> u8 {
+        let refusal = Oracle.seg_bounding_box(seg, out);
+        if refusal == 0 && self.is(Fault::ZeroLosesItsSign) {
+            zero_sign_lost(&mut out[..4]);
+        }
+        refusal
+    }
+
+    fn seg_midpoint(&self, seg: &[f64], out: &mut [f64]) -> u8 {
+        if self.is(Fault::LimitItselfIsALine) && seg.len() == 6 && seg[2].abs() == 1e-8 {
+            let seg = [seg[0], seg[1], 0.0, seg[3], seg[4], seg[5]];
+            return Oracle.seg_midpoint(&seg, out);
+        }
+        let refusal = Oracle.seg_midpoint(seg, out);
+        if refusal != 0 && self.is(Fault::RefusalWrites) {
+            out.fill(0.0);
+        }
+        refusal
+    }
+
+    fn view_create(
+        &self,
+        outline: &[f64],
+        start: u64,
+        x: f64,
+        y: f64,
+        intersect: u64,
+        vertex: &[f64],
+        traverse: u64,
+        tolerance: f64,
+        out: &mut [u8],
+    ) -> u8 {
+        let refusal = Oracle.view_create(
+            outline, start, x, y, intersect, vertex, traverse, tolerance, out,
+        );
+        let count = outline.len() as u64 / 3;
+        let bad_index = start >= count || intersect >= count;
+        if self.is(Fault::IndexCheckedBeforeTraverse) && refusal == 5 && bad_index {
+            return 4;
+        }
+        refusal
+    }
+
+    fn view_from_new_start(
+        &self,
+        outline: &[f64],
+        closed: u8,
+        x: f64,
+        y: f64,
+        start: u64,
+        tolerance: f64,
+        out: &mut [u8],
+    ) -> u8 {
+        let closed = if self.is(Fault::OnlyOneCountsAsClosed) {
+            u8::from(closed == 1)
+        } else {
+            closed
+        };
+        Oracle.view_from_new_start(outline, closed, x, y, start, tolerance, out)
+    }
+
+    fn view_validate(
+        &self,
+        outline: &[f64],
+        bytes: &[u8],
+        whole: &mut [u64],
+        out: &mut [f64],
+    ) -> u8 {
+        let refusal = Oracle.view_validate(outline, bytes, whole, out);
+        if refusal != 0 {
+            return refusal;
+        }
+        if whole[0] == 7 && self.is(Fault::FinalVertexTestedWithTheOtherTolerance) {
+            let record = record::decode(bytes).unwrap();
+            let index = (record.start_index + record.end_index_offset) % (outline.len() / 3);
+            let v = &outline[3 * index..3 * index + 3];
+            if record
+                .end_point
+                .fuzzy_eq_eps(Vector2::new(v[0], v[1]), 1e-3)
+            {
+                whole[0] = 5;
+                out[..2].copy_from_slice(&[record.end_point.x, record.end_point.y]);
+                out[2..5].copy_from_slice(v);
+            }
+        }
+        if whole[0] == 6 && self.is(Fault::VerdictSixValuesExchanged) {
+            out.swap(0, 1);
+        }
+        refusal
+    }
+
+    fn view_mark(&self, outline: &[f64], closed: u8, bytes: &[u8], out: &mut [u8]) -> u8 {
+        let refusal = Oracle.view_mark(outline, closed, bytes, out);
+        if refusal == 0 && self.is(Fault::OpenOutlinesHeld) && closed == 0 {
+            let record = record::decode(bytes).unwrap();
+            if record.start_index + record.end_index_offset + 1 >= outline.len() / 3 {
+                out[0] = 0;
+            }
+        }
+        refusal
+    }
+
+    fn view_count(&self, outline: &[f64], bytes: &[u8], out: &mut [u64]) -> u8 {
+        if self.is(Fault::OffsetEqualToTheCountRefused)
+            && let Ok(record) = record::decode(bytes)
+            && view::count(outline, &record).is_ok()
+            && record.end_index_offset == outline.len() / 3
+        {
+            return 5;
+        }
+        Oracle.view_count(outline, bytes, out)
+    }
+
+    fn view_get(&self, outline: &[f64], bytes: &[u8], position: u64, out: &mut [f64]) -> u8 {
+        let refusal = Oracle.view_get(outline, bytes, position, &mut out.to_vec());
+        if refusal == 0
+            && self.is(Fault::LookupChecksAllVertices)
+            && outline.iter().any(|x| x.is_nan())
+        {
+            return 1;
+        }
+        Oracle.view_get(outline, bytes, position, out)
+    }
+
+    fn view_list(&self, outline: &[f64], bytes: &[u8], out: &mut [f64], count: &mut [u64]) -> u8 {
+        let refusal = Oracle.view_list(outline, bytes, out, count);
+        if refusal != 0 {
+            return refusal;
+        }
+        if self.is(Fault::WritesPastTheList)
+            && let Some(place) = out.get_mut(3 * count[0] as usize)
+        {
+            *place = 0.0;
+        }
+        if let Some(n) = Self::inverted_list(outline, bytes) {
+            if self.is(Fault::MinusZeroAsLastBulge) {
+                out[3 * n - 1] = -0.0;
+            }
+            if self.is(Fault::BulgesNegatedAtTheirOldVertex) {
+                for k in (1..n - 1).rev() {
+                    out[3 * k + 2] = out[3 * k - 1];
+                }
+            }
+        }
+        refusal
+    }
+
+    fn view_reverse(&self, outline: &[f64], bytes: &[u8], out: &mut [u8]) -> u8 {
+        if self.is(Fault::WritesPastTheRoom) && out.len() == 63 {
+            let mut whole = [0; 64];
+            let refusal = Oracle.view_reverse(outline, bytes, &mut whole);
+            out.copy_from_slice(&whole[..63]);
+            return refusal;
+        }
+        Oracle.view_reverse(outline, bytes, out)
+    }
+
+    fn view_trim(&self, outline: &[f64], bytes: &[u8], i: u64, j: u64, out: &mut [u8]) -> u8 {
+        let refusal = Oracle.view_trim(outline, bytes, i, j, out);
+        if refusal == 0 && self.is(Fault::StartNotWrapped) {
+            let record = record::decode(bytes).unwrap();
+            let start = if record.inverted_direction {
+                record.start_index + record.end_index_offset + 1 - j as usize
+            } else {
+                record.start_index + i as usize
+            };
+            out[..4].copy_from_slice(&(start as u32).to_le_bytes());
+        }
+        refusal
+    }
+}
+
+/// The number of differences in a short run.
+fn found(fault: Fault) -> u64 {
+    let mut report = Report::default();
+    compare_calls(&Spoilt(fault), 3, 100_000, &mut report);
+    assert_eq!(report.shown.is_empty(), report.different == 0);
+    report.different
+}
+
+#[test]
+fn each_fault_is_found() {
+    assert_eq!(found(Fault::None), 0);
+    for fault in [
+        Fault::OffsetEqualToTheCountRefused,
+        Fault::BulgesNegatedAtTheirOldVertex,
+        Fault::MinusZeroAsLastBulge,
+        Fault::FinalVertexTestedWithTheOtherTolerance,
+        Fault::ToleranceEndsRefused,
+        Fault::NumberRefusedBeforeLength,
+        Fault::EndBulgeNotChecked,
+        Fault::RefusalWrites,
+        Fault::WritesPastTheList,
+        Fault::WritesPastTheRoom,
+        Fault::LookupChecksAllVertices,
+        Fault::OnlyOneCountsAsClosed,
+        Fault::IndexCheckedBeforeTraverse,
+        Fault::LimitItselfIsALine,
+        Fault::TieToTheFirstEnd,
+        Fault::AtTheDistanceIsGreater,
+        Fault::ZeroLosesItsSign,
+        Fault::SubnormalRootsAnUlpOff,
+        Fault::TiedRootsRoundedUp,
+        Fault::StartNotWrapped,
+        Fault::OpenOutlinesHeld,
+        Fault::EqualNumbersNotExchanged,
+        Fault::SplitAtTheEndOnThePoint,
+        Fault::VerdictSixValuesExchanged,
+    ] {
+        let times = found(fault);
+        println!("{fault:?}: found {times} times");
+        assert!(times > 0, "{fault:?} was not found");
+    }
+}
+
+#[test]
+fn each_sheet_fault_is_found() {
+    type Program = fn(&[u8]) -> Vec<u8>;
+    let reserved_ignored: Program = |bytes| {
+        let mut bytes = bytes.to_vec();
+        let records = 16 + 24 * usize::from(bytes.get(4).copied().unwrap_or(0));
+        for at in (records + 60..bytes.len().max(3) - 3).step_by(64) {
+            bytes[at..at + 4].fill(0);
+        }
+        sheet_text(&bytes)
+    };
+    let extra_byte_ignored: Program = |bytes| {
+        let text = sheet_text(bytes);
+        match bytes.split_last() {
+            Some((_, shorter)) if text == b"refused 11\n" => sheet_text(shorter),
+            _ => text,
+        }
+    };
+    let bit_1_unknown: Program = |bytes| {
+        if bytes.get(2).is_some_and(|flags| flags & 2 != 0) {
+            b"refused 11\n".to_vec()
+        } else {
+            sheet_text(bytes)
+        }
+    };
+    let numbers_before_records: Program = |bytes| {
+        let text = sheet_text(bytes);
+        let spoilt = bytes.chunks_exact(8).any(|x| x[6..] == [0xf0, 0x7f]);
+        if text == b"refused 12\n" && spoilt {
+            b"refused 1\n".to_vec()
+        } else {
+            text
+        }
+    };
+    let last_line_feed_missing: Program = |bytes| {
+        let mut text = sheet_text(bytes);
+        text.pop();
+        text
+    };
+    for (name, program) in [
+        ("reserved bytes ignored", reserved_ignored),
+        ("an extra byte ignored", extra_byte_ignored),
+        ("flag bit 1 unknown", bit_1_unknown),
+        ("numbers before records", numbers_before_records),
+        ("last line feed missing", last_line_feed_missing),
+    ] {
+        let mut report = Report::default();
+        compare_sheets(program, 4, 2_000, &mut report);
+        println!("{name}: found {} times", report.different);
+        assert!(report.different > 0, "{name} was not found");
+    }
+}

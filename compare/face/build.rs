@@ -1,0 +1,17 @@
+//! Links the static library that `rt staticlib bisquefern` writes.
+
+use std::{env, path::PathBuf};
+
+fn main() {
+    let manifest = PathBuf::from(env::var_os("CARGO_MANIFEST_DIR").unwrap());
+    let root = manifest.ancestors().nth(2).unwrap();
+    let folder = root.join("target/staticlib");
+    let archive = folder.join("libbisquefern.a");
+    println!("cargo:rerun-if-changed={}", archive.display());
+    assert!(
+        archive.exists(),
+        "target/staticlib/libbisquefern.a is missing: run rt staticlib bisquefern first"
+    );
+    println!("cargo:rustc-link-search=native={}", folder.display());
+    println!("cargo:rustc-link-lib=static=bisquefern");
+}

@@ -1,0 +1,47 @@
+//! A short comparison of the static library and the program `sheet` with the oracle.
+//!
+//! `BISQUEFERN_ROUNDS` repeats it that often, each time from another seed.
+
+use cases::compare::{Report, compare_calls};
+use cases::sheets::{compare_sheets, printed};
+use cases::stored;
+use face::{Bisquefern, sheet_program};
+use oracle::Oracle;
+
+fn rounds() -> u64 {
+    match std::env::var("BISQUEFERN_ROUNDS") {
+        Ok(word) => word.parse().expect("BISQUEFERN_ROUNDS is a whole number"),
+        Err(_) => 1,
+    }
+}
+
+fn expect_no_difference(report: &Report) {
+    println!("{}", report.last_line());
+    assert_eq!(report.different, 0, "{}", report.shown.join("\n"));
+}
+
+#[test]
+fn calls_and_sheets() {
+    let program = sheet_program();
+    let mut report = Report::default();
+    for round in 0..rounds() {
+        compare_calls(&Bisquefern, 100 + round, 300_000, &mut report);
+        compare_sheets(
+            |bytes| printed(&program, bytes),
+            200 + round,
+            400,
+            &mut report,
+        );
+    }
+    expect_no_difference(&report);
+    assert_eq!(report.gaps(), Vec::<String>::new());
+}
+
+#[test]
+fn the_stored_list() {
+    let mut report = Report::default();
+    for case in stored::all() {
+        report.judge(&case, &case.run(&Oracle), &case.run(&Bisquefern));
+    }
+    expect_no_difference(&report);
+}

@@ -1,0 +1,4 @@
+//! Module list, in place of the text's `core/traits/mod.rs`.
+mod real;
+
+pub use real::Real;

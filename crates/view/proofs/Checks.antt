@@ -1,0 +1,80 @@
+-- What it says that an outline and a record pass the checks, and that a check's answer is that of every chain that begins with it.
+use mathlib.Core.Path.{_≡_, refl, sym, ap, _∙_}
+use mathlib.Core.Bool.{Bool, true, false, _&&_}
+use mathlib.Core.List.{List}
+use Prim.Native.Nat.{ℕ, _%_, _≤_}
+use native.Mathlib.Omega.{arith}
+use lib.ListN.{length}
+use lib.Dec.{ltb, leb, eqb}
+use lib.Ieee.{Float}
+use borrow.Author.Tests.{ltb-true, leb-true, lt-ltb, le-leb}
+use Rattle.real.specs.Refusal.{badNumber, badOutline, badIndex, badOffset}
+use Rattle.real.specs.Reply.{Reply, refused, given, check}
+use Rattle.plane.specs.Grade.{Grade}
+use Rattle.plane.specs.Range.{mostVertices, wholeOutline}
+use Rattle.view.specs.Outline.{countOf, viewable, numbersOk}
+use Rattle.view.specs.Record.{recordOk}
+use Rattle.view.specs.Needs.{Placed}
+use Rattle.view.specs.Check.{pass, placeOf, checkOf}
+use Rattle.view.specs.declared.view_data.PlineViewData.{PlineViewData}
+use Rattle.view.proofs.All.{and-both}
+
+-- one link of a chain: it passed, so its test holds; it refused, and so does the link before any other rest
+pub check-passed : {A : Type 0} {b : Bool} {a : A} (n : ℕ) (rest : Reply A) → given a ≡ check b n rest → (b ≡ true) × (given a ≡ rest)
+check-passed {b = true} n rest e = (refl, e)
+check-passed {b = false} n rest e = let z : _≡_ {A = ℕ} 0 1 = cc in absurd (omega arith)
+
+check-refused : {A : Type 0} (b : Bool) (m n : ℕ) (rest : Reply (Unit {0})) (rest′ : Reply A) → (refused m ≡ rest → refused m ≡ rest′) → refused m ≡ check b n rest → refused m ≡ check b n rest′
+check-refused true m n rest rest′ f e = f e
+check-refused false m n rest rest′ f e = let q : m ≡ n = cc in ap refused q
+
+no-refusal : {A : Type 0} (m : ℕ) (rest : Reply A) → refused m ≡ pass → refused m ≡ rest
+no-refusal m rest e = let z : _≡_ {A = ℕ} 0 1 = cc in absurd (omega arith)
+
+pub viewable-in : (s : List Float) → viewable s ≡ true → (2 ≤ countOf s) × (countOf s ≤ mostVertices)
+unfolding viewable wholeOutline
+viewable-in s e =
+    let a = and-both (wholeOutline (length s)) _ e in
+    let b = and-both (eqb (length s % 3) 0) _ (a .0) in
+    (leb-true _ _ (a .1), leb-true _ _ (b .1))
+
+module _ (s : List Float) (d : PlineViewData) where
+  pub place-refused : {A : Type 0} (m : ℕ) (rest : Reply A) → refused m ≡ placeOf s d pass → refused m ≡ placeOf s d rest
+  unfolding placeOf
+  place-refused m rest = check-refused (leb (d .«end_index_offset») (countOf s)) m badOffset _ _ (check-refused (ltb (d .«start_index») (countOf s)) m badIndex pass rest (no-refusal m rest))
+
+  pub place-placed : {A : Type 0} {a : A} (rest : Reply A) → viewable s ≡ true → given a ≡ placeOf s d rest → Placed s d
+  unfolding placeOf
+  place-placed rest v e =
+      let a = check-passed badOffset _ e in
+      let b = check-passed badIndex _ (a .1) in
+      let h = viewable-in s v in
+      record { few = h .1; two = h .0; start = ltb-true _ _ (b .0); offset = leb-true _ _ (a .0) }
+
+  pub place-rest : {A : Type 0} (rest : Reply A) → Placed s d → placeOf s d rest ≡ rest
+  unfolding placeOf
+  place-rest rest p = simp (le-leb _ _ (p .offset), lt-ltb _ _ (p .start))
+
+-- all that the view calls check
+pub record Checked (g : Grade) (s : List Float) (d : PlineViewData) : Type 0 where
+  pub outline : viewable s ≡ true
+  pub numbers : numbersOk g s ≡ true
+  pub record-in : recordOk g d ≡ true
+  pub placed : Placed s d
+
+module _ (g : Grade) (s : List Float) (d : PlineViewData) where
+  pub checked-refused : {A : Type 0} (m : ℕ) (rest : Reply A) → refused m ≡ checkOf g s d pass → refused m ≡ checkOf g s d rest
+  unfolding checkOf
+  checked-refused m rest = check-refused (viewable s) m badOutline _ _ (check-refused (numbersOk g s && recordOk g d) m badNumber _ _ (place-refused s d m rest))
+
+  pub checked : {A : Type 0} {a : A} (rest : Reply A) → given a ≡ checkOf g s d rest → Checked g s d
+  unfolding checkOf
+  checked rest e =
+      let a = check-passed badOutline _ e in
+      let b = check-passed badNumber _ (a .1) in
+      let n = and-both (numbersOk g s) (recordOk g d) (b .0) in
+      record { outline = a .0; numbers = n .0; record-in = n .1; placed = place-placed s d rest (a .0) (b .1) }
+
+  pub checked-rest : {A : Type 0} (rest : Reply A) → Checked g s d → checkOf g s d rest ≡ rest
+  unfolding checkOf
+  checked-rest rest c = simp (c .outline, c .numbers, c .record-in, place-rest s d rest (c .placed))

@@ -1,0 +1,131 @@
+-- The crate's `validate_for_source`: "Validation answers one of seven verdicts, numbered 1 to 7 in the order of `ViewDataValidation`, each carrying the points, bulges or counts that the crate puts there."
+use mathlib.Core.Bool.{Bool, true, cond, not, _&&_}
+use mathlib.Core.List.{List, [], _∷_}
+use Prim.Native.Nat.{ℕ}
+use lib.Dec.{ltb, eqb}
+use lib.ListN.{length}
+use lib.Ieee.{Float}
+use Rattle.real.specs.Refusal.{badNumber, badOutline, badIndex}
+use Rattle.real.specs.Reply.{Reply, refused, given, check}
+use Rattle.plane.specs.Grade.{Grade}
+use Rattle.plane.specs.Vec.{nearOf, vnearOf}
+use Rattle.plane.specs.Vertex.{posOf}
+use Rattle.plane.specs.Range.{wholeOutline}
+use Rattle.plane.specs.declared.vector2.Vector2.{Vector2}
+use Rattle.plane.specs.declared.pline_vertex.PlineVertex.{PlineVertex}
+use Rattle.view.specs.View.{wrapped}
+use Rattle.view.specs.Outline.{vertexOf, countOf, numbersOk}
+use Rattle.view.specs.Record.{recordOk}
+use Rattle.view.specs.Segment.{onOutline}
+use Rattle.view.specs.declared.view_data.PlineViewData.{PlineViewData}
+use Rattle.view.specs.declared.validation.ViewDataValidation.{ViewDataValidation}
+use Rattle.view.specs.declared.validation.ViewDataValidation.the-variants as crate
+use Rattle.view.specs.declared.validation.ValidationAnswer.{ValidationAnswer}
+use Rattle.view.specs.declared.validation.ValidationAnswer.the-variants as validation
+use Rattle.view.specs.declared.validation.Mark.{Mark}
+use Rattle.view.specs.declared.validation.Mark.the-variants as case
+use Rattle.view.specs.declared.validation.MarkAnswer.{MarkAnswer}
+use Rattle.view.specs.declared.validation.MarkAnswer.the-variants as mark
+
+-- document 01's number, and the counts and the floats in the crate's order
+pub record Verdict : Type 0 where
+  pub number : ℕ
+  pub counts : List ℕ
+  pub floats : List Float
+
+abbrev pub verdict : ℕ → List ℕ → List Float → Verdict
+verdict n c f = record { number = n; counts = c; floats = f }
+
+abbrev pub noSegments : Verdict
+noSegments = verdict 1 [] []
+
+abbrev pub offsetOut : ℕ → ℕ → Verdict
+offsetOut offset count = verdict 2 (offset ∷ count ∷ []) []
+
+abbrev pub startOff : Vector2 → Verdict
+startOff p = verdict 3 [] (p .x ∷ p .y ∷ [])
+
+abbrev pub endOff : Vector2 → Verdict
+endOff p = verdict 4 [] (p .x ∷ p .y ∷ [])
+
+abbrev pub endOnVertex : Vector2 → PlineVertex → Verdict
+endOnVertex p v = verdict 5 [] (p .x ∷ p .y ∷ v .x ∷ v .y ∷ v .bulge ∷ [])
+
+abbrev pub bulgesDiffer : Float → Float → Verdict
+bulgesDiffer updated expected = verdict 6 [] (updated ∷ expected ∷ [])
+
+abbrev pub valid : Verdict
+valid = verdict 7 [] []
+
+-- each case of the crate's enum, as document 01 numbers it
+abbrev pub verdictOf : ViewDataValidation → Verdict
+verdictOf crate.SourceHasNoSegments = noSegments
+verdictOf (crate.OffsetOutOfRange offset count) = offsetOut offset count
+verdictOf (crate.UpdatedStartNotOnSegment p) = startOff p
+verdictOf (crate.EndPointNotOnSegment p) = endOff p
+verdictOf (crate.EndPointOnFinalOffsetVertex p v) = endOnVertex p v
+verdictOf (crate.UpdatedBulgeDoesNotMatch updated expected) = bulgesDiffer updated expected
+verdictOf crate.IsValid = valid
+
+abbrev pub validationReply : ValidationAnswer → Reply Verdict
+validationReply (validation.Given v) = given (verdictOf v)
+validationReply (validation.Refused n) = refused n
+
+module _ (g : Grade) where
+  -- on one segment, "whether the updated bulge matches the updated start's"
+  unfoldable pub bulgesMatch : PlineViewData → Bool
+  bulgesMatch d = cond (eqb (d .«end_index_offset») 0) (nearOf g (d .«updated_end_bulge») (d .«updated_start» .bulge) (g .onVertex)) true
+
+  -- verdicts 4 to 7: whether the end point is on its segment, and that segment's first vertex. "0.00001 mm whether an end sits on a vertex"
+  unfoldable pub endVerdict : PlineViewData → Bool → PlineVertex → Verdict
+  endVerdict d on v =
+      cond (not on) (endOff (d .«end_point»))
+      (cond (vnearOf g (d .«end_point») (posOf v) (g .onVertex)) (endOnVertex (d .«end_point») v)
+      (cond (not (bulgesMatch d)) (bulgesDiffer (d .«updated_end_bulge») (d .«updated_start» .bulge))
+      valid))
+
+  module _ (limit : Float) where
+    -- verdicts 3 to 7
+    unfoldable pub placedVerdict : List Float → PlineViewData → Verdict
+    placedVerdict s d =
+        let first = posOf (d .«updated_start») in
+        let last = wrapped (d .«start_index») (d .«end_index_offset») (countOf s) in
+        cond (not (onOutline g limit s (d .«start_index») first)) (startOff first)
+        (endVerdict d (onOutline g limit s last (d .«end_point»)) (vertexOf s last))
+
+    -- verdicts 1 and 2; "After verdicts 1 and 2 comes refusal 4."
+    unfoldable pub countedVerdict : List Float → PlineViewData → Reply Verdict
+    countedVerdict s d =
+        cond (ltb (countOf s) 2) (given noSegments)
+        (cond (ltb (countOf s) (d .«end_index_offset»)) (given (offsetOut (d .«end_index_offset») (countOf s)))
+        (check (ltb (d .«start_index») (countOf s)) badIndex
+        (given (placedVerdict s d))))
+
+    -- 3 (but "under two vertices, for any view call but validation"), then 1
+    unfoldable pub validateOf : List Float → PlineViewData → Reply Verdict
+    validateOf s d =
+        check (wholeOutline (length s)) badOutline
+        (check (numbersOk g s && recordOk g d) badNumber
+        (countedVerdict s d))
+
+-- ---- the mark
+
+pub data MarkCase : Type 0 where
+  cut hold : MarkCase
+
+abbrev pub markCase : Mark → MarkCase
+markCase case.Cut = cut
+markCase case.Hold = hold
+
+abbrev pub markReply : MarkAnswer → Reply MarkCase
+markReply (mark.Given m) = given (markCase m)
+markReply (mark.Refused n) = refused n
+
+-- "a view is cut exactly when its verdict is 7, on open and closed outlines alike; otherwise it is hold"
+unfoldable pub markOf : Bool → Verdict → MarkCase
+markOf closed v = cond (eqb (v .number) 7) cut hold
+
+-- the mark of a verdict that is not refused
+abbrev pub markAnswer : Bool → Reply Verdict → Reply MarkCase
+markAnswer closed (refused n) = refused n
+markAnswer closed (given v) = given (markOf closed v)

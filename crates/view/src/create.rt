@@ -1,0 +1,136 @@
+// The crate's `PlineViewData::create`.
+use crate::ending::Ending;
+use crate::outline::fwd_wrapping_index;
+use crate::outline::serves_views;
+use crate::outline::vertex_at;
+use crate::outline::vertices_in_range;
+use crate::segment::split_of;
+use crate::view_data::PlineViewData;
+use crate::view_data::ViewAnswer;
+use plane::PlineVertex;
+use plane::Vector2;
+use plane::point_in_range;
+use plane::tol_in_range;
+use plane::vertex_in_range;
+use real::BAD_INDEX;
+use real::BAD_NUMBER;
+use real::BAD_OFFSET;
+use real::BAD_OUTLINE;
+use real::BAD_TOLERANCE;
+ghost use mathlib.Core.Path.{_≡_};
+ghost use mathlib.Core.Bool.{_&&_};
+ghost use lib.Dec.{ltb};
+ghost use Rattle.plane.specs.Grade.{double};
+ghost use Rattle.plane.specs.Range.{pointOk, vertexOk};
+ghost use Rattle.view.specs.Outline.{numbersOk};
+ghost use Rattle.view.specs.Answers.{viewReply};
+ghost use Rattle.view.specs.Needs.{OnTop, Splits, Ends};
+ghost use Rattle.view.specs.Create.{endOnTop, endOnSegment, endingOf, endedAt, createOf};
+
+// The end on top of vertex `at`.
+fn end_on_top(source: &[f64], at: usize, b: f64, traverse: usize) -> Ending
+    requires { ⌜ OnTop (now source) at traverse ⌝ }
+    ensures { λ r. ⌜ r ≡ endOnTop (now (source .entry)) at b traverse ⌝ }
+{
+    let count = source.len() / 3;
+    let offset = traverse - 1;
+    if offset == 0 {
+        return Ending { offset, bulge: b };
+    }
+    let v = vertex_at(source, fwd_wrapping_index(at, count - 1, count));
+    Ending {
+        offset,
+        bulge: v.bulge,
+    }
+}
+
+// The end on segment `at`, whose bulge is trimmed to the point.
+fn end_on_segment(source: &[f64], at: usize, p: Vector2, traverse: usize, eps: f64) -> Ending
+    requires { ⌜ Splits double (now source) at p eps ⌝ }
+    ensures { λ r. ⌜ r ≡ endOnSegment double (double .line) (now (source .entry)) at p traverse eps ⌝ }
+{
+    let count = source.len() / 3;
+    let v1 = vertex_at(source, at);
+    let v2 = vertex_at(source, fwd_wrapping_index(at, 1, count));
+    let split = split_of(v1, v2, p, eps);
+    let start = split.updated_start;
+    Ending {
+        offset: traverse,
+        bulge: start.bulge,
+    }
+}
+
+// How the view ends, at a point on segment `at`.
+fn find_end(source: &[f64], p: Vector2, at: usize, b: f64, traverse: usize, eps: f64) -> Ending
+    requires { ⌜ Ends double (now source) at p traverse eps ⌝ }
+    ensures { λ r. ⌜ r ≡ endingOf double (double .line) (now (source .entry)) p at b traverse eps ⌝ }
+{
+    let v = vertex_at(source, at);
+    if p.fuzzy_eq_eps(v.pos(), eps) {
+        return end_on_top(source, at, b, traverse);
+    }
+    end_on_segment(source, at, p, traverse, eps)
+}
+
+// The record, unless its offset is above the vertex count.
+fn ended_at(source: &[f64], start: usize, p: Vector2, first: PlineVertex, e: Ending) -> ViewAnswer
+    ensures { λ r. ⌜ viewReply r ≡ endedAt double (double .line) (now (source .entry)) start p first e ⌝ }
+{
+    let offset = e.offset;
+    if offset > source.len() / 3 {
+        return ViewAnswer::Refused(BAD_OFFSET);
+    }
+    ViewAnswer::Given(PlineViewData {
+        start_index: start,
+        end_index_offset: offset,
+        updated_start: first,
+        updated_end_bulge: e.bulge,
+        end_point: p,
+        inverted_direction: false,
+    })
+}
+
+fn all_in_range(source: &[f64], p: Vector2, first: PlineVertex) -> bool
+    ensures { λ r. ⌜ r ≡ (numbersOk double (now (source .entry)) && (pointOk double p && vertexOk double first)) ⌝ }
+{
+    vertices_in_range(source) && (point_in_range(p) && vertex_in_range(first))
+}
+
+fn both_below(a: usize, b: usize, count: usize) -> bool
+    ensures { λ r. ⌜ r ≡ (ltb a count && ltb b count) ⌝ }
+{
+    a < count && b < count
+}
+
+impl PlineViewData {
+    // The view from `first`, on segment `start`, over `traverse` vertices to a point on segment `at`.
+    pub fn create(
+        source: &[f64],
+        start: usize,
+        p: Vector2,
+        at: usize,
+        first: PlineVertex,
+        traverse: usize,
+        eps: f64,
+    ) -> ViewAnswer
+        ensures { λ r. ⌜ viewReply r ≡ createOf double (double .line) (now (source .entry)) start p at first traverse eps ⌝ }
+    {
+        if !serves_views(source) {
+            return ViewAnswer::Refused(BAD_OUTLINE);
+        }
+        if !all_in_range(source, p, first) {
+            return ViewAnswer::Refused(BAD_NUMBER);
+        }
+        if !tol_in_range(eps) {
+            return ViewAnswer::Refused(BAD_TOLERANCE);
+        }
+        if traverse == 0 {
+            return ViewAnswer::Refused(BAD_OFFSET);
+        }
+        if !both_below(start, at, source.len() / 3) {
+            return ViewAnswer::Refused(BAD_INDEX);
+        }
+        let e = find_end(source, p, at, first.bulge, traverse, eps);
+        ended_at(source, start, p, first, e)
+    }
+}

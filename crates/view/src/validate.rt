@@ -1,0 +1,127 @@
+// The crate's `validate_for_source`, and the mark.
+use crate::check::numbers_in_range;
+use crate::outline::fwd_wrapping_index;
+use crate::outline::vertex_at;
+use crate::segment::point_is_on_segment;
+use crate::validation::MarkAnswer;
+use crate::validation::ValidationAnswer;
+use crate::validation::ViewDataValidation;
+use crate::view_data::PlineViewData;
+use plane::PlineVertex;
+use plane::Vector2;
+use plane::fuzzy_eq_eps;
+use plane::outline_is_whole;
+use real::BAD_INDEX;
+use real::BAD_NUMBER;
+use real::BAD_OUTLINE;
+ghost use mathlib.Core.Path.{_≡_};
+ghost use Rattle.plane.specs.Grade.{double};
+ghost use Rattle.view.specs.Needs.{Judged, Numbered};
+ghost use Rattle.view.specs.Validation.{verdictOf, validationReply, bulgesMatch, endVerdict, placedVerdict, countedVerdict, validateOf, markReply, markAnswer};
+
+// Whether the bulges of a view on one segment match; a longer view has nothing to match.
+fn bulges_match(d: PlineViewData) -> bool
+    ensures { λ r. ⌜ r ≡ bulgesMatch double d ⌝ }
+{
+    let offset = d.end_index_offset;
+    let v = d.updated_start;
+    if offset == 0 {
+        return fuzzy_eq_eps(d.updated_end_bulge, v.bulge, 1e-5);
+    }
+    true
+}
+
+// Verdicts 4 to 7: whether the end point is on its segment, and that segment's first vertex.
+fn judge_end(d: PlineViewData, on: bool, v: PlineVertex) -> ViewDataValidation
+    ensures { λ r. ⌜ verdictOf r ≡ endVerdict double d on v ⌝ }
+{
+    let p = d.end_point;
+    let first = d.updated_start;
+    let at = Vector2 { x: v.x, y: v.y };
+    if !on {
+        return ViewDataValidation::EndPointNotOnSegment { end_point: p };
+    }
+    if p.fuzzy_eq_eps(at, 1e-5) {
+        return ViewDataValidation::EndPointOnFinalOffsetVertex {
+            end_point: p,
+            final_offset_vertex: v,
+        };
+    }
+    if !bulges_match(d) {
+        return ViewDataValidation::UpdatedBulgeDoesNotMatch {
+            updated_bulge: d.updated_end_bulge,
+            expected: first.bulge,
+        };
+    }
+    ViewDataValidation::IsValid
+}
+
+// Verdicts 3 to 7.
+fn judge(source: &[f64], d: PlineViewData) -> ViewDataValidation
+    requires { ⌜ Judged double (now source) d ⌝ }
+    ensures { λ r. ⌜ verdictOf r ≡ placedVerdict double (double .line) (now (source .entry)) d ⌝ }
+{
+    let count = source.len() / 3;
+    let start = d.start_index;
+    let first = d.updated_start;
+    let p = Vector2 {
+        x: first.x,
+        y: first.y,
+    };
+    if !point_is_on_segment(source, start, p) {
+        return ViewDataValidation::UpdatedStartNotOnSegment { start_point: p };
+    }
+    let last = fwd_wrapping_index(start, d.end_index_offset, count);
+    let end = d.end_point;
+    let on = point_is_on_segment(source, last, end);
+    judge_end(d, on, vertex_at(source, last))
+}
+
+// Verdicts 1 and 2, then refusal 4, then the others.
+fn judge_counts(source: &[f64], d: PlineViewData) -> ValidationAnswer
+    requires { ⌜ Numbered double (now source) d ⌝ }
+    ensures { λ r. ⌜ validationReply r ≡ countedVerdict double (double .line) (now (source .entry)) d ⌝ }
+{
+    let count = source.len() / 3;
+    let offset = d.end_index_offset;
+    let start = d.start_index;
+    if count < 2 {
+        return ValidationAnswer::Given(ViewDataValidation::SourceHasNoSegments);
+    }
+    if count < offset {
+        return ValidationAnswer::Given(ViewDataValidation::OffsetOutOfRange {
+            offset,
+            source_length: count,
+        });
+    }
+    if start >= count {
+        return ValidationAnswer::Refused(BAD_INDEX);
+    }
+    ValidationAnswer::Given(judge(source, d))
+}
+
+impl PlineViewData {
+    // The crate's verdict on the record over an outline.
+    pub fn validate_for_source(self, source: &[f64]) -> ValidationAnswer
+        ensures { λ r. ⌜ validationReply r ≡ validateOf double (double .line) (now (source .entry)) self ⌝ }
+    {
+        if !outline_is_whole(source) {
+            return ValidationAnswer::Refused(BAD_OUTLINE);
+        }
+        if !numbers_in_range(source, self) {
+            return ValidationAnswer::Refused(BAD_NUMBER);
+        }
+        judge_counts(source, self)
+    }
+
+    // Whether the view is cut or held.
+    pub fn mark(self, source: &[f64], closed: bool) -> MarkAnswer
+        ensures { λ r. ⌜ markReply r ≡ markAnswer closed (validateOf double (double .line) (now (source .entry)) self) ⌝ }
+    {
+        let answer = self.validate_for_source(source);
+        match answer {
+            ValidationAnswer::Given(verdict) => MarkAnswer::Given(verdict.mark(closed)),
+            ValidationAnswer::Refused(n) => MarkAnswer::Refused(n),
+        }
+    }
+}
