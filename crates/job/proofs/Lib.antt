@@ -11,3 +11,4 @@ mod Viewing
 mod Parting
 pub mod Whole
 pub mod Records
+pub mod Example

@@ -20,10 +20,10 @@ use Rattle.view.specs.Outline.{countOf, srcOf, viewable, numbersOk}
 use Rattle.view.specs.Record.{viewOf, vertices, needed, listed, recordOk}
 use Rattle.view.specs.Check.{placeOf, checkOf}
 use Rattle.view.specs.Answers.{listOf, written, listBuffer, bufferAfter}
-use Rattle.view.specs.Validation.{Verdict, validateOf, MarkCase, cut, hold, markOf}
+use Rattle.view.specs.Validation.{Verdict, validateOf, MarkCase, cut, hold, markOf, markAnswer}
 use Rattle.view.specs.declared.view_data.PlineViewData.{PlineViewData}
 use Rattle.view.proofs.All.{and-both}
-use Rattle.view.proofs.Valid.{valid-lists, cut-valid}
+use Rattle.view.proofs.Cut.{cut-says, cut-clear, cut-lists as lists}
 use Rattle.job.specs.Text.{row, numbered, rows}
 use Rattle.job.specs.Lines.{refusedLine, viewHead}
 use Rattle.job.specs.Views.{markText, verdictText, viewText, markBuffer, verdictBuffer, viewBuffer, listNumbers, Lists}
@@ -49,22 +49,12 @@ module _ (closed : Bool) (s : List Float) (d : PlineViewData) (k : ℕ) (l : Lis
 
 -- ---- a cut view lists
 
--- what is listed lies in the outline
-few-in : (s : List Float) (d : PlineViewData) (m n : ℕ) → listOf double s d m ≡ given n → d .«end_index_offset» ≤ mostVertices
-unfolding listOf checkOf placeOf viewable wholeOutline
-few-in s d m n e =
-    let outline = check-given (viewable s) badOutline _ e in
-    let numbers = check-given (numbersOk double s && recordOk double d) badNumber _ (outline .1) in
-    let offset : d .«end_index_offset» ≤ countOf s = leb-true _ _ (check-given (leb (d .«end_index_offset») (countOf s)) badOffset _ (numbers .1) .0) in
-    let few : countOf s ≤ mostVertices = leb-true _ _ (and-both (eqb (length s % 3) 0) _ (and-both (wholeOutline (length s)) _ (outline .0) .0) .1) in
-    omega arith
-
 pub cut-lists : (closed : Bool) (s : List Float) (d : PlineViewData) (v : Verdict) → validateOf double (double .line) s d ≡ given v → cut ≡ markOf closed v → Lists s d listNumbers
 cut-lists closed s d v e q =
-    let valid = cut-valid closed v (sym q) in
-    let few : d .«end_index_offset» ≤ mostVertices = few-in s d (needed d) (vertices d) (valid-lists double (double .line) s d v (needed d) e valid (le-refl (needed d))) in
-    let room : needed d ≤ listNumbers = omega arith in
-    record { list = valid-lists double (double .line) s d v listNumbers e valid room; few = few; room = room }
+    let mark : markAnswer closed (validateOf double (double .line) s d) ≡ given cut = ap (markAnswer closed) e ∙ ap given (sym q) in
+    let placed = cut-clear closed double (double .line) s d (cut-says closed double (double .line) s d mark) .placed in
+    let room : needed d ≤ listNumbers = omega (arith, placed .few, placed .offset) in
+    record { list = lists closed double (double .line) s d mark listNumbers room; few = omega (arith, placed .few, placed .offset); room = room }
 
 -- ---- and its rows are those of the list
 

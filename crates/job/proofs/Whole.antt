@@ -5,17 +5,19 @@ use Prim.Native.Nat.{ℕ, suc, _+_, _-_}
 use native.Mathlib.Numerals.{add-two}
 use native.Mathlib.Omega.{arith}
 use lib.Ieee.{Float}
+use Rattle.real.specs.Refusal.{badNumber, badSheet, badRecord}
 use Rattle.real.specs.Reply.{Reply, refused, given}
 use Rattle.view.specs.declared.view_data.PlineViewData.{PlineViewData}
 use Rattle.job.specs.declared.sheet.Opened.{Opened}
-use Rattle.job.specs.Header.{headerOf, closed}
+use Rattle.job.specs.Header.{headerOf, headerOk, closed}
 use Rattle.job.specs.Record.{recordOf}
 use Rattle.job.specs.Text.{numbered, joined}
-use Rattle.job.specs.Sheet.{views, outlineOf, recordPlace, recordsOf, sheetOf, openOf}
+use Rattle.job.specs.Sheet.{views, outlineOf, recordPlace, recordsOf, recordsOk, verticesOk, sheetOf, openOf}
 use Rattle.job.specs.Lines.{refusedLine, outlineLine}
 use Rattle.job.specs.Views.{viewText}
 use Rattle.job.specs.Parts.{boxLine, wholeText, answerText, sheetText, boxPart, partText}
 use Rattle.job.proofs.Joined.{joined-ext, joined-first, numbered-joined}
+use Rattle.job.proofs.Replies.{never-given, refused-alike}
 use Rattle.job.proofs.Sheets.{Accepted, accepted-rest, opened-accepted, opened-is}
 use Rattle.job.proofs.Parting.{outline-part, box-part, view-part}
 
@@ -59,4 +61,5 @@ parts-whole b o e =
 -- a sheet that is refused: all that it prints
 pub refused-whole : (b : List ℕ) (n : ℕ) → openOf b ≡ refused n → refusedLine n ≡ sheetText b
 unfolding sheetText openOf sheetOf
-refused-whole b n e = ?
+refused-whole b n e =
+    sym (ap answerText (refused-alike (headerOk b) n badSheet _ _ (refused-alike (recordsOk b) n badRecord _ _ (refused-alike (verticesOk b) n badNumber _ _ (λ p. never-given (sym p)))) e))

@@ -10,3 +10,5 @@ pub mod Sheet
 pub mod Lines
 pub mod Views
 pub mod Parts
+pub mod RoundTrip
+pub mod Example

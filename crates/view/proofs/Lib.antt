@@ -1,5 +1,5 @@
-mod Tab
-mod All
+pub mod Tab
+pub mod All
 pub mod Steps
 pub mod Lists
 mod Views

@@ -1,23 +1,18 @@
-use lib.ListN.{length}
-use denote.Ref.{now}
-use Rattle.job.specs.declared.header.Header.{Header}
+-- The length is tested first, then the fields.
 use mathlib.Core.Path.{ap, _∙_}
-use Rattle.job.specs.Header.{headerFits, headerOk}
-use Rattle.job.proofs.Tests.{is, at-most, above}
+use lib.ListN.{length}
 use borrow.Author.Tests.{lt-leb, le-leb}
 use borrow.Author.Needs.{needs}
+use denote.Ref.{now}
+use Rattle.job.specs.declared.header.Header.{Header}
+use Rattle.job.specs.Header.{headerFits, headerOk}
+use Rattle.job.proofs.Tests.{is, at-most, above}
 use Rattle.job.proofs.header.header_is_sound.Statement.{statement}
 use Rattle.job.proofs.header.header_is_sound.Tie as tie
 
 returns : tie.Need-returns
 unfolding headerOk
 returns c = simp (lt-leb _ _ (c .if1 .taken))
-
-header-of-requires : tie.Need-header-of-requires
-header-of-requires c κs = search needs
-
-header-fits-requires : tie.Need-header-fits-requires
-header-fits-requires c κs = search needs
 
 returns-2 : tie.Need-returns-2
 unfolding headerOk
@@ -26,5 +21,4 @@ returns-2 c =
     at-most (c .before .before .if1 .left) (c .header-fits .ensures ∙ ap (λ (h : Header). headerFits h n) (c .before .header-of .ensures))
 
 pub header-is-sound-spec : {M : Type 1} → statement M
-header-is-sound-spec =
-    tie.close (tie.spec returns header-of-requires header-fits-requires returns-2)
+header-is-sound-spec = tie.close (tie.spec returns (λ c κs. search needs) (λ c κs. search needs) returns-2)

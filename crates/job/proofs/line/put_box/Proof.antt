@@ -1,27 +1,10 @@
+-- The pieces of the line, one after the other.
 use native.Mathlib.Omega.{arith}
+use borrow.Author.Needs.{needs}
 use Rattle.job.specs.Lines.{boundsLine}
 use Rattle.job.proofs.Writing.{next}
-use borrow.Author.Needs.{needs}
 use Rattle.job.proofs.line.put_box.Statement.{statement}
 use Rattle.job.proofs.line.put_box.Tie as tie
-
-slice-aggregate-put-text : tie.Need-slice-aggregate-put-text
-slice-aggregate-put-text c = search needs
-
-put-text-requires : tie.Need-put-text-requires
-put-text-requires c κs = search needs
-
-put-floats-requires : tie.Need-put-floats-requires
-put-floats-requires c κs = search needs
-
-put-floats-requires-2 : tie.Need-put-floats-requires-2
-put-floats-requires-2 c κs = search needs
-
-put-byte-requires : tie.Need-put-byte-requires
-put-byte-requires c κs = search needs
-
-same-length : tie.Need-same-length
-same-length c = search needs
 
 returns : tie.Need-returns
 unfolding boundsLine
@@ -36,10 +19,10 @@ pub put-box-spec : {M : Type 1} → statement M
 put-box-spec =
     tie.close
     (tie.spec
-    slice-aggregate-put-text
-    put-text-requires
-    put-floats-requires
-    put-floats-requires-2
-    put-byte-requires
-    same-length
+    (λ c. search needs)
+    (λ c κs. search needs)
+    (λ c κs. search needs)
+    (λ c κs. search needs)
+    (λ c κs. search needs)
+    (λ c. search needs)
     returns)

@@ -1,30 +1,10 @@
+-- The pieces of the line, one after the other.
 use native.Mathlib.Omega.{arith}
+use borrow.Author.Needs.{needs}
 use Rattle.job.specs.Lines.{outlineLine}
 use Rattle.job.proofs.Writing.{next}
-use borrow.Author.Needs.{needs}
 use Rattle.job.proofs.line.put_outline.Statement.{statement}
 use Rattle.job.proofs.line.put_outline.Tie as tie
-
-slice-aggregate-put-text : tie.Need-slice-aggregate-put-text
-slice-aggregate-put-text c = search needs
-
-put-text-requires : tie.Need-put-text-requires
-put-text-requires c κs = search needs
-
-put-decimal-requires : tie.Need-put-decimal-requires
-put-decimal-requires c κs = search needs
-
-put-byte-requires : tie.Need-put-byte-requires
-put-byte-requires c κs = search needs
-
-put-decimal-requires-2 : tie.Need-put-decimal-requires-2
-put-decimal-requires-2 c κs = search needs
-
-put-closed-requires : tie.Need-put-closed-requires
-put-closed-requires c κs = search needs
-
-same-length : tie.Need-same-length
-same-length c = search needs
 
 returns : tie.Need-returns
 unfolding outlineLine
@@ -40,11 +20,11 @@ pub put-outline-spec : {M : Type 1} → statement M
 put-outline-spec =
     tie.close
     (tie.spec
-    slice-aggregate-put-text
-    put-text-requires
-    put-decimal-requires
-    put-byte-requires
-    put-decimal-requires-2
-    put-closed-requires
-    same-length
+    (λ c. search needs)
+    (λ c κs. search needs)
+    (λ c κs. search needs)
+    (λ c κs. search needs)
+    (λ c κs. search needs)
+    (λ c κs. search needs)
+    (λ c. search needs)
     returns)

@@ -1,27 +1,10 @@
+-- The pieces of the line, one after the other.
 use native.Mathlib.Omega.{arith}
+use borrow.Author.Needs.{needs}
 use Rattle.job.specs.Lines.{viewLine}
 use Rattle.job.proofs.Writing.{next}
-use borrow.Author.Needs.{needs}
 use Rattle.job.proofs.line.put_view_line.Statement.{statement}
 use Rattle.job.proofs.line.put_view_line.Tie as tie
-
-put-head-requires : tie.Need-put-head-requires
-put-head-requires c κs = search needs
-
-put-decimal-requires : tie.Need-put-decimal-requires
-put-decimal-requires c κs = search needs
-
-put-mark-requires : tie.Need-put-mark-requires
-put-mark-requires c κs = search needs
-
-put-decimal-requires-2 : tie.Need-put-decimal-requires-2
-put-decimal-requires-2 c κs = search needs
-
-put-byte-requires : tie.Need-put-byte-requires
-put-byte-requires c κs = search needs
-
-same-length : tie.Need-same-length
-same-length c = search needs
 
 returns : tie.Need-returns
 unfolding viewLine
@@ -37,10 +20,10 @@ pub put-view-line-spec : {M : Type 1} → statement M
 put-view-line-spec =
     tie.close
     (tie.spec
-    put-head-requires
-    put-decimal-requires
-    put-mark-requires
-    put-decimal-requires-2
-    put-byte-requires
-    same-length
+    (λ c κs. search needs)
+    (λ c κs. search needs)
+    (λ c κs. search needs)
+    (λ c κs. search needs)
+    (λ c κs. search needs)
+    (λ c. search needs)
     returns)

@@ -1,8 +1,10 @@
+-- The view lists, so that the buffer holds the list whose rows follow the line.
 use mathlib.Core.Path.{_≡_, ap, _∙_}
 use mathlib.Core.List.{List, _++_}
 use Prim.Native.Nat.{ℕ}
 use native.Mathlib.Omega.{arith}
 use lib.Ieee.{Float}
+use borrow.Author.Needs.{needs}
 use denote.Ref.{now}
 use Rattle.view.specs.Record.{vertices}
 use Rattle.view.specs.Validation.{cut}
@@ -11,27 +13,8 @@ use Rattle.job.specs.Lines.{viewLine}
 use Rattle.job.specs.Views.{markText}
 use Rattle.job.proofs.Writing.{next, named}
 use Rattle.job.proofs.Viewing.{list-written, list-rows}
-use borrow.Author.Needs.{needs}
 use Rattle.job.proofs.part.put_cut.Statement.{statement}
 use Rattle.job.proofs.part.put_cut.Tie as tie
-
-list-requires : tie.Need-list-requires
-list-requires c κs = search needs
-
-add-count : tie.Need-add-count
-add-count c = search needs
-
-put-view-line-requires : tie.Need-put-view-line-requires
-put-view-line-requires c κs = search needs
-
-put-rows-requires : tie.Need-put-rows-requires
-put-rows-requires c κs = search needs
-
-same-length : tie.Need-same-length
-same-length c = search needs
-
-same-length-2 : tie.Need-same-length-2
-same-length-2 c = search needs
 
 returns : tie.Need-returns
 unfolding markText
@@ -52,10 +35,10 @@ pub put-cut-spec : {M : Type 1} → statement M
 put-cut-spec =
     tie.close
     (tie.spec
-    list-requires
-    add-count
-    put-view-line-requires
-    put-rows-requires
-    same-length
-    same-length-2
+    (λ c κs. search needs)
+    (λ c. search needs)
+    (λ c κs. search needs)
+    (λ c κs. search needs)
+    (λ c. search needs)
+    (λ c. search needs)
     returns)

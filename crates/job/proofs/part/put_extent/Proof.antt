@@ -1,9 +1,11 @@
+-- No text for vertices out of range, no box under two of them, and else the box of the segments.
 use mathlib.Core.Path.{_≡_, sym, ap, ap₂, _∙_}
 use mathlib.Core.Bool.{Bool}
 use Prim.Native.Nat.{ℕ}
 use native.Mathlib.Omega.{arith}
-use denote.Ref.{now}
 use borrow.Author.Tests.{lt-ltb, le-ltb}
+use borrow.Author.Needs.{needs}
+use denote.Ref.{now}
 use Rattle.real.proofs.Pick.{passed, failed}
 use Rattle.seg.specs.declared.bounds.Bounds.{Bounds}
 use Rattle.job.specs.declared.header.Header.{Header}
@@ -14,12 +16,8 @@ use Rattle.job.specs.Parts.{boxPart}
 use Rattle.job.proofs.Writing.{named, none}
 use Rattle.job.proofs.Sheets.{vertices-by}
 use Rattle.job.proofs.Parting.{no-box, some-box}
-use borrow.Author.Needs.{needs}
 use Rattle.job.proofs.part.put_extent.Statement.{statement}
 use Rattle.job.proofs.part.put_extent.Tie as tie
-
-vertices-are-sound-requires : tie.Need-vertices-are-sound-requires
-vertices-are-sound-requires c κs = search needs
 
 returns : tie.Need-returns
 unfolding boxPart
@@ -27,12 +25,6 @@ returns c =
     let o = c .before .before .before .before in
     let e = failed (c .before .vertices-are-sound .ensures ∙ vertices-by _ (o .args .h) (o .pre .0)) (c .if1 .taken) in
     (named (simp e) (none _ 0), omega arith)
-
-put-no-box-requires : tie.Need-put-no-box-requires
-put-no-box-requires c κs = search needs
-
-same-length : tie.Need-same-length
-same-length c = search needs
 
 returns-2 : tie.Need-returns-2
 unfolding boxPart
@@ -43,26 +35,11 @@ returns-2 c =
     let e = passed (i .before .vertices-are-sound .ensures ∙ vertices-by _ (o .args .h) (o .pre .0)) (i .if1 .left) in
     (named (simp e (no-box _ (o .args .h) (o .pre .0) (omega arith))) (p .put-no-box .ensures .0), omega arith)
 
-is-closed-requires : tie.Need-is-closed-requires
-is-closed-requires c κs = search needs
-
-last-segment-requires : tie.Need-last-segment-requires
-last-segment-requires c κs = search needs
-
-is-fast-requires : tie.Need-is-fast-requires
-is-fast-requires c κs = search needs
-
 outline-box-requires : tie.Need-outline-box-requires
 outline-box-requires c κs = 
     let i = c .before .before .before .before .before in
     let o = c .before .before .before .before .before .before .before .before .before in
     (record { room = omega (arith, o .pre .0 .size); each = passed (i .before .vertices-are-sound .ensures) (i .if1 .left) }, c .before .before .last-segment .ensures .1)
-
-put-box-requires : tie.Need-put-box-requires
-put-box-requires c κs = search needs
-
-same-length-2 : tie.Need-same-length-2
-same-length-2 c = search needs
 
 returns-3 : tie.Need-returns-3
 unfolding boxPart
@@ -81,15 +58,15 @@ pub put-extent-spec : {M : Type 1} → statement M
 put-extent-spec =
     tie.close
     (tie.spec
-    vertices-are-sound-requires
+    (λ c κs. search needs)
     returns
-    put-no-box-requires
-    same-length
+    (λ c κs. search needs)
+    (λ c. search needs)
     returns-2
-    is-closed-requires
-    last-segment-requires
-    is-fast-requires
+    (λ c κs. search needs)
+    (λ c κs. search needs)
+    (λ c κs. search needs)
     outline-box-requires
-    put-box-requires
-    same-length-2
+    (λ c κs. search needs)
+    (λ c. search needs)
     returns-3)

@@ -1,7 +1,9 @@
+-- The number of the part picks the case of the definition.
 use mathlib.Core.Path.{_≡_, refl, sym, ap, ap₂, subst, _∙_}
 use mathlib.Core.Bool.{Bool}
 use Prim.Native.Nat.{ℕ, _+_, _*_, _-_, _≤_, _<_}
 use native.Mathlib.Omega.{arith}
+use borrow.Author.Needs.{needs}
 use denote.Ref.{now}
 use Rattle.view.specs.declared.view_data.PlineViewData.{PlineViewData}
 use Rattle.job.specs.declared.header.Header.{Header}
@@ -12,12 +14,8 @@ use Rattle.job.specs.Lines.{outlineLine}
 use Rattle.job.specs.Views.{viewText, viewBuffer}
 use Rattle.job.proofs.Writing.{named, none}
 use Rattle.job.proofs.Parting.{past-part, outline-part, box-part, view-part}
-use borrow.Author.Needs.{needs}
 use Rattle.job.proofs.part.put_part.Statement.{statement}
 use Rattle.job.proofs.part.put_part.Tie as tie
-
-add-if1 : tie.Need-add-if1
-add-if1 c = search needs
 
 returns : tie.Need-returns
 returns c = 
@@ -28,15 +26,6 @@ returns c =
     let p = past-part (now (a .bytes)) (now (a .outline)) (now (a .list)) (a .k) (g .sound) (omega arith) in
     (named (p .0) (none _ 0), omega arith, p .1)
 
-is-closed-requires : tie.Need-is-closed-requires
-is-closed-requires c κs = search needs
-
-put-outline-requires : tie.Need-put-outline-requires
-put-outline-requires c κs = search needs
-
-same-length : tie.Need-same-length
-same-length c = search needs
-
 returns-2 : tie.Need-returns-2
 returns-2 c = 
     let o = c .before .before .before .before .before .before .before .before .before .before .before .before in
@@ -46,48 +35,12 @@ returns-2 c =
     let p = outline-part (now (a .bytes)) (now (a .outline)) (now (a .list)) (a .k) (g .sound) (c .before .before .before .before .if2 .taken) in
     (named (ap (outlineLine (a .h .vertices) (a .h .views)) (c .before .before .before .before .before .is-closed .ensures) ∙ ap (λ (h : Header). outlineLine (h .vertices) (h .views) (closed h)) (g .is) ∙ p .0) (w .put-outline .ensures .0), omega arith, p .1)
 
-put-extent-requires : tie.Need-put-extent-requires
-put-extent-requires c κs = search needs
-
-same-length-2 : tie.Need-same-length-2
-same-length-2 c = search needs
-
 returns-3 : tie.Need-returns-3
 returns-3 c = 
     let o = c .before .before .before .before .before .before .before .before .before .before .before .before .before in
     let a = o .args in
     let p = box-part (now (a .bytes)) (now (a .outline)) (now (a .list)) (a .k) (o .pre .0 .sound) (c .before .before .before .before .if3 .taken) in
     (named (p .0) (c .before .before .put-extent .ensures .0), omega arith, p .1)
-
-mul-record-of : tie.Need-mul-record-of
-mul-record-of c = search needs
-
-add-record-of : tie.Need-add-record-of
-add-record-of c = search needs
-
-sub-record-of : tie.Need-sub-record-of
-sub-record-of c = search needs
-
-mul-record-of-2 : tie.Need-mul-record-of-2
-mul-record-of-2 c = search needs
-
-add-record-of-2 : tie.Need-add-record-of-2
-add-record-of-2 c = search needs
-
-record-of-requires : tie.Need-record-of-requires
-record-of-requires c κs = search needs
-
-sub-put-view : tie.Need-sub-put-view
-sub-put-view c = search needs
-
-put-view-requires : tie.Need-put-view-requires
-put-view-requires c κs = search needs
-
-same-length-3 : tie.Need-same-length-3
-same-length-3 c = search needs
-
-same-length-4 : tie.Need-same-length-4
-same-length-4 c = search needs
 
 returns-4 : tie.Need-returns-4
 returns-4 c = 
@@ -109,23 +62,23 @@ pub put-part-spec : {M : Type 1} → statement M
 put-part-spec =
     tie.close
     (tie.spec
-    add-if1
+    (λ c. search needs)
     returns
-    is-closed-requires
-    put-outline-requires
-    same-length
+    (λ c κs. search needs)
+    (λ c κs. search needs)
+    (λ c. search needs)
     returns-2
-    put-extent-requires
-    same-length-2
+    (λ c κs. search needs)
+    (λ c. search needs)
     returns-3
-    mul-record-of
-    add-record-of
-    sub-record-of
-    mul-record-of-2
-    add-record-of-2
-    record-of-requires
-    sub-put-view
-    put-view-requires
-    same-length-3
-    same-length-4
+    (λ c. search needs)
+    (λ c. search needs)
+    (λ c. search needs)
+    (λ c. search needs)
+    (λ c. search needs)
+    (λ c κs. search needs)
+    (λ c. search needs)
+    (λ c κs. search needs)
+    (λ c. search needs)
+    (λ c. search needs)
     returns-4)

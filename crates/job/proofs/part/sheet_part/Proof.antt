@@ -1,19 +1,17 @@
+-- Without a good header there is no part; else the part stands at the buffer's start.
 use mathlib.Core.Path.{_≡_, subst, _∙_}
 use mathlib.Core.List.{List}
 use Prim.Native.Nat.{ℕ}
 use native.Mathlib.Omega.{arith}
+use borrow.Author.Needs.{needs}
 use denote.Ref.{now}
 use Rattle.real.proofs.Pick.{passed, failed}
 use Rattle.job.specs.Wrote.{Filled}
 use Rattle.job.proofs.Heads.{long-header, headed}
 use Rattle.job.proofs.Writing.{filled, nothing}
 use Rattle.job.proofs.Parting.{no-part}
-use borrow.Author.Needs.{needs}
 use Rattle.job.proofs.part.sheet_part.Statement.{statement}
 use Rattle.job.proofs.part.sheet_part.Tie as tie
-
-header-is-sound-requires : tie.Need-header-is-sound-requires
-header-is-sound-requires c κs = search needs
 
 returns : tie.Need-returns
 returns c = 
@@ -33,6 +31,4 @@ returns-2 : tie.Need-returns-2
 returns-2 c = (filled (c .put-part .ensures .0) (omega (arith, c .put-part .ensures .1)), c .put-part .ensures .2)
 
 pub sheet-part-spec : {M : Type 1} → statement M
-sheet-part-spec =
-    tie.close
-    (tie.spec header-is-sound-requires returns header-of-requires put-part-requires returns-2)
+sheet-part-spec = tie.close (tie.spec (λ c κs. search needs) returns header-of-requires put-part-requires returns-2)

@@ -1,25 +1,11 @@
-use Rattle.job.proofs.Writing.{next}
+-- Four digits, four times.
 use native.Mathlib.Omega.{arith}
+use borrow.Author.Needs.{needs}
+use Rattle.job.proofs.Writing.{next}
 use Rattle.job.proofs.Writing.{named}
 use Rattle.job.proofs.Digits.{hex-quarters}
-use borrow.Author.Needs.{needs}
 use Rattle.job.proofs.text.put_hex.Statement.{statement}
 use Rattle.job.proofs.text.put_hex.Tie as tie
-
-put-hex4-requires : tie.Need-put-hex4-requires
-put-hex4-requires c κs = search needs
-
-put-hex4-requires-2 : tie.Need-put-hex4-requires-2
-put-hex4-requires-2 c κs = search needs
-
-put-hex4-requires-3 : tie.Need-put-hex4-requires-3
-put-hex4-requires-3 c κs = search needs
-
-put-hex4-requires-4 : tie.Need-put-hex4-requires-4
-put-hex4-requires-4 c κs = search needs
-
-same-length : tie.Need-same-length
-same-length c = search needs
 
 returns : tie.Need-returns
 returns c = 
@@ -33,9 +19,9 @@ pub put-hex-spec : {M : Type 1} → statement M
 put-hex-spec =
     tie.close
     (tie.spec
-    put-hex4-requires
-    put-hex4-requires-2
-    put-hex4-requires-3
-    put-hex4-requires-4
-    same-length
+    (λ c κs. search needs)
+    (λ c κs. search needs)
+    (λ c κs. search needs)
+    (λ c κs. search needs)
+    (λ c. search needs)
     returns)

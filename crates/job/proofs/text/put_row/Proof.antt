@@ -1,28 +1,11 @@
-use Rattle.job.proofs.Writing.{next}
+-- The pieces of the row, one after the other.
 use native.Mathlib.Omega.{arith}
-use Rattle.job.specs.Text.{row}
-use Rattle.job.proofs.Writing.{writes}
 use borrow.Author.Needs.{needs}
+use Rattle.job.specs.Text.{row}
+use Rattle.job.proofs.Writing.{next}
+use Rattle.job.proofs.Writing.{writes}
 use Rattle.job.proofs.text.put_row.Statement.{statement}
 use Rattle.job.proofs.text.put_row.Tie as tie
-
-put-decimal-requires : tie.Need-put-decimal-requires
-put-decimal-requires c κs = search needs
-
-put-float-requires : tie.Need-put-float-requires
-put-float-requires c κs = search needs
-
-put-float-requires-2 : tie.Need-put-float-requires-2
-put-float-requires-2 c κs = search needs
-
-put-float-requires-3 : tie.Need-put-float-requires-3
-put-float-requires-3 c κs = search needs
-
-put-byte-requires : tie.Need-put-byte-requires
-put-byte-requires c κs = search needs
-
-same-length : tie.Need-same-length
-same-length c = search needs
 
 returns : tie.Need-returns
 unfolding row
@@ -38,10 +21,10 @@ pub put-row-spec : {M : Type 1} → statement M
 put-row-spec =
     tie.close
     (tie.spec
-    put-decimal-requires
-    put-float-requires
-    put-float-requires-2
-    put-float-requires-3
-    put-byte-requires
-    same-length
+    (λ c κs. search needs)
+    (λ c κs. search needs)
+    (λ c κs. search needs)
+    (λ c κs. search needs)
+    (λ c κs. search needs)
+    (λ c. search needs)
     returns)
