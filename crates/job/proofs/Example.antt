@@ -1,0 +1,29 @@
+-- Document 01's example, computed from the definitions.
+use mathlib.Core.Path.{_≡_, refl}
+use lib.Ieee.{ofBits, toBits, neg, add, sub, mul, div, lt, le, eq}
+use Rattle.real.specs.Root.{absOf, rootOf}
+use Rattle.plane.specs.Range.{wholeOutline, coordOk, bulgeOk, pointOk, vertexOk}
+use Rattle.seg.specs.Arc.{radiusOf, centerOf}
+use Rattle.seg.specs.Closest.{arcClosest, closestOf}
+use Rattle.seg.specs.Bounds.{startRadius, endRadius, arcBoxBy, arcBox, boxOf}
+use Rattle.view.specs.Plain.{tab}
+use Rattle.view.specs.View.{forward, vertexAt, listOf}
+use Rattle.view.specs.Outline.{all, numbersOk}
+use Rattle.view.specs.Record.{recordOk}
+use Rattle.view.specs.Segment.{onSegmentOf, onOutline}
+use Rattle.view.specs.Validation.{bulgesMatch, endVerdict, placedVerdict, countedVerdict, validateOf, markOf}
+use Rattle.job.specs.Bytes.{le16, le32, le64, floatAt}
+use Rattle.job.specs.Text.{hex, decimals, decimal, float, row, numbered}
+use Rattle.job.specs.Header.{headerFits, headerOk}
+use Rattle.job.specs.Record.{recordOk as formOk}
+use Rattle.job.specs.Outline.{numbersIn}
+use Rattle.job.specs.Extent.{boxTo}
+use Rattle.job.specs.Sheet.{recordsOf, sheetOf}
+use Rattle.job.specs.Lines.{refusedLine, outlineLine, floats, boundsLine, viewHead, viewLine}
+use Rattle.job.specs.Views.{markText, verdictText, viewText}
+use Rattle.job.specs.Parts.{boxLine, wholeText, sheetText}
+use Rattle.job.specs.Example.{exampleSheet, exampleText}
+
+pub example : sheetText exampleSheet ≡ exampleText
+unfolding ofBits toBits neg add sub mul div lt le eq absOf rootOf wholeOutline coordOk bulgeOk pointOk vertexOk radiusOf centerOf arcClosest closestOf startRadius endRadius arcBoxBy arcBox boxOf tab forward vertexAt listOf all numbersOk recordOk onSegmentOf onOutline bulgesMatch endVerdict placedVerdict countedVerdict validateOf markOf le16 le32 le64 floatAt hex decimals decimal float row numbered headerFits headerOk formOk numbersIn boxTo recordsOf sheetOf refusedLine outlineLine floats boundsLine viewHead viewLine markText verdictText viewText boxLine wholeText sheetText
+example = refl

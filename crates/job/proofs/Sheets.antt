@@ -1,0 +1,70 @@
+-- What a sheet's check says, by its header at hand; and what an accepted sheet is.
+use mathlib.Core.Path.{_≡_, refl, sym, ap, _∙_}
+use mathlib.Core.Bool.{true}
+use mathlib.Core.List.{List, _++_}
+use Prim.Native.Nat.{ℕ, _+_, _*_}
+use native.Mathlib.Omega.{arith}
+use lib.ListN.{length, drop, length-append, length-drop}
+use lib.Ieee.{Float}
+use Rattle.real.specs.Refusal.{badNumber, badSheet, badRecord}
+use Rattle.real.specs.Reply.{Reply, given}
+use Rattle.plane.specs.Grade.{double}
+use Rattle.plane.specs.Range.{vertexOk}
+use Rattle.view.specs.Outline.{all}
+use Rattle.view.specs.Answers.{bufferAfter}
+use Rattle.view.proofs.Tab.{length-tab}
+use Rattle.job.specs.declared.header.Header.{Header}
+use Rattle.job.specs.declared.sheet.Opened.{Opened}
+use Rattle.job.specs.Header.{headerOf, headerOk, Headed}
+use Rattle.job.specs.Record.{recordOk}
+use Rattle.job.specs.Outline.{vertexIn, numbersIn}
+use Rattle.job.specs.Sheet.{vertices, views, outlineOf, recordsOk, verticesOk, sheetOf, outlineNumbers, openOf, openBuffer}
+use Rattle.job.proofs.Replies.{check-given, same-given}
+use Rattle.job.proofs.Heads.{headed}
+
+module _ (b : List ℕ) (h : Header) (g : Headed b h) where
+  pub records-by : all (λ k. recordOk b (16 + 24 * h .vertices + 64 * k)) (h .views) ≡ recordsOk b
+  records-by = ap (λ (k : Header). all (λ j. recordOk b (16 + 24 * k .vertices + 64 * j)) (k .views)) (g .is)
+
+  pub vertices-by : all (λ k. vertexOk double (vertexIn b k)) (h .vertices) ≡ verticesOk b
+  vertices-by = ap (λ (k : Header). all (λ j. vertexOk double (vertexIn b j)) (k .vertices)) (g .is)
+
+-- ---- an accepted sheet
+
+pub record Accepted (b : List ℕ) : Type 0 where
+  pub header : headerOk b ≡ true
+  pub records : recordsOk b ≡ true
+  pub vertices : verticesOk b ≡ true
+
+module _ {A : Type 0} (b : List ℕ) where
+  pub accepted : {a : A} (rest : Reply A) → sheetOf b rest ≡ given a → Accepted b
+  unfolding sheetOf
+  accepted rest e =
+      let p = check-given (headerOk b) badSheet _ e in
+      let q = check-given (recordsOk b) badRecord _ (p .1) in
+      record { header = p .0; records = q .0; vertices = check-given (verticesOk b) badNumber rest (q .1) .0 }
+
+  pub accepted-rest : (rest : Reply A) → Accepted b → sheetOf b rest ≡ rest
+  unfolding sheetOf
+  accepted-rest rest a = simp (a .header, a .records, a .vertices)
+
+-- ---- opening it
+
+module _ (b : List ℕ) (o : Opened) (e : openOf b ≡ given o) where
+  pub opened-accepted : Accepted b
+  unfolding openOf
+  opened-accepted = accepted b _ e
+
+  pub opened-is : o ≡ record { numbers = 3 * vertices b; parts = views b + 2 }
+  unfolding openOf
+  opened-is = same-given (sym e ∙ accepted-rest b _ opened-accepted)
+
+  -- the outline's buffer keeps its length
+  pub opened-length : (l : List Float) → length l ≡ outlineNumbers → length (openBuffer b l) ≡ outlineNumbers
+  unfolding openBuffer bufferAfter numbersIn
+  opened-length l n =
+      let h = headed b (headerOf b) (opened-accepted .header) refl in
+      let m : length (outlineOf b) ≡ 3 * vertices b = length-tab _ (3 * vertices b) in
+      ap (λ (r : Reply Opened). length (bufferAfter r l (outlineOf b ++ drop (3 * vertices b) l))) e
+      ∙ length-append (outlineOf b) (drop (3 * vertices b) l)
+      ∙ omega (arith, length-drop (3 * vertices b) l)

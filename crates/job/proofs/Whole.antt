@@ -1,0 +1,65 @@
+-- The parts of a sheet's text, in the order in which the program writes them, joined, are the whole text.
+use mathlib.Core.Path.{_≡_, refl, sym, ap, ap₂, _∙_}
+use mathlib.Core.List.{List, _++_, append-assoc}
+use Prim.Native.Nat.{ℕ, suc, _+_, _-_}
+use native.Mathlib.Numerals.{add-two}
+use native.Mathlib.Omega.{arith}
+use lib.Ieee.{Float}
+use Rattle.real.specs.Refusal.{badNumber, badSheet, badRecord}
+use Rattle.real.specs.Reply.{Reply, refused, given}
+use Rattle.view.specs.declared.view_data.PlineViewData.{PlineViewData}
+use Rattle.job.specs.declared.sheet.Opened.{Opened}
+use Rattle.job.specs.Header.{headerOf, headerOk, closed}
+use Rattle.job.specs.Record.{recordOf}
+use Rattle.job.specs.Text.{numbered, joined}
+use Rattle.job.specs.Sheet.{views, outlineOf, recordPlace, recordsOf, recordsOk, verticesOk, sheetOf, openOf}
+use Rattle.job.specs.Lines.{refusedLine, outlineLine}
+use Rattle.job.specs.Views.{viewText}
+use Rattle.job.specs.Parts.{boxLine, wholeText, answerText, sheetText, boxPart, partText}
+use Rattle.job.proofs.Joined.{joined-ext, joined-first, numbered-joined}
+use Rattle.job.proofs.Replies.{never-given, refused-alike}
+use Rattle.job.proofs.Sheets.{Accepted, accepted-rest, opened-accepted, opened-is}
+use Rattle.job.proofs.Parting.{outline-part, box-part, view-part}
+
+module _ (b : List ℕ) (a : Accepted b) where
+  abbrev part : ℕ → List ℕ
+  part = partText b (outlineOf b)
+
+  abbrev view : ℕ → List ℕ
+  view k = viewText (closed (headerOf b)) (outlineOf b) k (recordOf b (recordPlace b k))
+
+  box-is : boxPart b ≡ boxLine b
+  unfolding boxPart
+  box-is = simp (a .vertices)
+
+  views-are : joined (λ k. part (suc (suc k))) (views b) ≡ numbered (viewText (closed (headerOf b)) (outlineOf b)) 0 (recordsOf b)
+  unfolding recordsOf
+  views-are =
+      joined-ext _ view (views b) (λ k h.
+      let e : suc (suc k) - 2 ≡ k = omega arith in
+      sym (view-part b (outlineOf b) (outlineOf b) (suc (suc k)) (a .header) (omega arith) (omega arith) .0) ∙ ap view e)
+      ∙ sym (numbered-joined (viewText (closed (headerOf b)) (outlineOf b)) (λ k. recordOf b (recordPlace b k)) (views b))
+
+  whole : joined part (views b + 2) ≡ wholeText b
+  unfolding wholeText
+  whole =
+      ap (joined part) (add-two (views b)) ∙ joined-first part (suc (views b))
+      ∙ ap (λ (t : List ℕ). part 0 ++ t) (joined-first (λ k. part (suc k)) (views b))
+      ∙ sym (append-assoc (part 0) (part 1) (joined (λ k. part (suc (suc k))) (views b)))
+      ∙ ap₂ (λ (t u : List ℕ). t ++ u)
+      (ap₂ (λ (t u : List ℕ). t ++ u) (sym (outline-part b (outlineOf b) (outlineOf b) 0 (a .header) refl .0)) (sym (box-part b (outlineOf b) (outlineOf b) 1 (a .header) refl .0) ∙ box-is))
+      views-are
+
+-- a sheet that opens: its parts, over its own outline
+pub parts-whole : (b : List ℕ) (o : Opened) → openOf b ≡ given o → joined (partText b (outlineOf b)) (o .parts) ≡ sheetText b
+unfolding sheetText
+parts-whole b o e =
+    let a = opened-accepted b o e in
+    ap (λ (p : Opened). joined (partText b (outlineOf b)) (p .parts)) (opened-is b o e)
+    ∙ whole b a ∙ sym (ap answerText (accepted-rest b (given (wholeText b)) a))
+
+-- a sheet that is refused: all that it prints
+pub refused-whole : (b : List ℕ) (n : ℕ) → openOf b ≡ refused n → refusedLine n ≡ sheetText b
+unfolding sheetText openOf sheetOf
+refused-whole b n e =
+    sym (ap answerText (refused-alike (headerOk b) n badSheet _ _ (refused-alike (recordsOk b) n badRecord _ _ (refused-alike (verticesOk b) n badNumber _ _ (λ p. never-given (sym p)))) e))

@@ -1,0 +1,19 @@
+-- The two tests are the definition's.
+use mathlib.Core.Path.{sym}
+use native.Mathlib.Omega.{arith}
+use borrow.Author.Tests.{lt-leb, le-leb}
+use borrow.Author.Needs.{needs}
+use Rattle.job.specs.Record.{recordOk}
+use Rattle.job.proofs.record.record_is_sound.Statement.{statement}
+use Rattle.job.proofs.record.record_is_sound.Tie as tie
+
+returns : tie.Need-returns
+unfolding recordOk
+returns c = simp (sym (c .before .before .le32 .ensures .0), sym (c .le322 .ensures .0), le-leb _ _ (c .before .if1 .taken))
+
+returns-2 : tie.Need-returns-2
+unfolding recordOk
+returns-2 c = simp (sym (c .before .le32 .ensures .0), lt-leb _ _ (c .if1 .left))
+
+pub record-is-sound-spec : {M : Type 1} → statement M
+record-is-sound-spec = tie.close (tie.spec (λ c. search needs) (λ c κs. search needs) (λ c. search needs) (λ c κs. search needs) returns returns-2)

@@ -1,0 +1,39 @@
+-- The lines of a sheet's text. "Fields: V, W, open or closed; least x, y, greatest x, y ..; view number, verdict, cut or hold, count"
+use Prim.Native.Nat.{ℕ}
+use mathlib.Core.Bool.{Bool, cond}
+use mathlib.Core.List.{List, _++_}
+use lib.Ieee.{Float}
+use Rattle.seg.specs.declared.bounds.Bounds.{Bounds}
+use Rattle.view.specs.Validation.{MarkCase, cut, hold}
+use Rattle.job.specs.Ascii.{ascii}
+use Rattle.job.specs.Text.{decimal, float}
+
+-- "a refused sheet only `refused N`"
+unfoldable pub refusedLine : ℕ → List ℕ
+refusedLine n = ascii "refused " ++ decimal n ++ ascii "\n"
+
+abbrev pub closedWord : Bool → List ℕ
+closedWord closed = cond closed (ascii " closed\n") (ascii " open\n")
+
+unfoldable pub outlineLine : ℕ → ℕ → Bool → List ℕ
+outlineLine v w closed = ascii "outline " ++ decimal v ++ ascii " " ++ decimal w ++ closedWord closed
+
+unfoldable pub floats : Float → Float → List ℕ
+floats x y = float x ++ float y
+
+unfoldable pub boundsLine : Bounds → List ℕ
+boundsLine b = ascii "box" ++ floats (b .«min_x») (b .«min_y») ++ floats (b .«max_x») (b .«max_y») ++ ascii "\n"
+
+-- "Under two vertices: `box none`."
+abbrev pub noBoxLine : List ℕ
+noBoxLine = ascii "box none\n"
+
+unfoldable pub viewHead : ℕ → List ℕ
+viewHead k = ascii "view " ++ decimal k ++ ascii " "
+
+abbrev pub markWord : MarkCase → List ℕ
+markWord cut = ascii " cut "
+markWord hold = ascii " hold "
+
+unfoldable pub viewLine : ℕ → ℕ → MarkCase → ℕ → List ℕ
+viewLine k verdict mark count = viewHead k ++ decimal verdict ++ markWord mark ++ decimal count ++ ascii "\n"

@@ -1,0 +1,59 @@
+-- All of a sheet's text, and the parts in which it is made.
+use Prim.Native.Nat.{ℕ, zero, suc, _+_, _*_, _-_}
+use mathlib.Core.Bool.{Bool, cond, _&&_}
+use mathlib.Core.List.{List, [], _++_}
+use lib.Dec.{ltb, eqb}
+use lib.Ieee.{Float}
+use Rattle.real.specs.Reply.{Reply, refused, given}
+use Rattle.view.specs.declared.view_data.PlineViewData.{PlineViewData}
+use Rattle.job.specs.Header.{headerOf, headerOk, closed, fast}
+use Rattle.job.specs.Record.{recordOf}
+use Rattle.job.specs.Outline.{vertexIn}
+use Rattle.job.specs.Extent.{boxTo, lastSegment}
+use Rattle.job.specs.Sheet.{vertices, views, outlineOf, recordPlace, recordsOf, verticesOk, sheetOf}
+use Rattle.job.specs.Text.{numbered}
+use Rattle.job.specs.Lines.{refusedLine, outlineLine, boundsLine, noBoxLine}
+use Rattle.job.specs.Views.{viewText, viewBuffer}
+
+-- ---- the whole
+
+-- "Under two vertices: `box none`."
+unfoldable pub boxLine : List ℕ → List ℕ
+boxLine b =
+    let h = headerOf b in
+    cond (ltb (h .vertices) 2) noBoxLine (boundsLine (boxTo (fast h) (vertexIn b) (h .vertices) (lastSegment (closed h) (h .vertices))))
+
+unfoldable pub wholeText : List ℕ → List ℕ
+wholeText b =
+    let h = headerOf b in
+    outlineLine (h .vertices) (h .views) (closed h) ++ boxLine b ++ numbered (viewText (closed h) (outlineOf b)) 0 (recordsOf b)
+
+-- "a refused sheet only `refused N`"
+abbrev pub answerText : Reply (List ℕ) → List ℕ
+answerText (refused n) = refusedLine n
+answerText (given t) = t
+
+-- "All of its output"
+unfoldable pub sheetText : List ℕ → List ℕ
+sheetText b = answerText (sheetOf b (given (wholeText b)))
+
+-- ---- the parts of a sheet b, over any outline s; past the last part, and without a good header, there is none
+
+unfoldable pub boxPart : List ℕ → List ℕ
+boxPart b = cond (verticesOk b) (boxLine b) []
+
+unfoldable pub partText : List ℕ → List Float → ℕ → List ℕ
+partText b s k =
+    let h = headerOf b in
+    cond (headerOk b && ltb k (h .views + 2))
+    (cond (eqb k 0) (outlineLine (h .vertices) (h .views) (closed h))
+    (cond (eqb k 1) (boxPart b)
+    (viewText (closed h) s (k - 2) (recordOf b (recordPlace b (k - 2))))))
+    []
+
+-- the buffer in which a cut view is listed
+unfoldable pub partBuffer : List ℕ → List Float → ℕ → List Float → List Float
+partBuffer b s k l =
+    cond (headerOk b && ltb k (views b + 2))
+    (cond (ltb k 2) l (viewBuffer (closed (headerOf b)) s (recordOf b (recordPlace b (k - 2))) l))
+    l

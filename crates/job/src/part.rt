@@ -1,0 +1,146 @@
+// A sheet's text, part by part: the outline's line, the box line, and one part for each view.
+use crate::extent::outline_box;
+use crate::header::Header;
+use crate::header::header_is_sound;
+use crate::header::header_of;
+use crate::header::is_closed;
+use crate::header::is_fast;
+use crate::line::put_box;
+use crate::line::put_no_box;
+use crate::line::put_outline;
+use crate::line::put_refused;
+use crate::line::put_refused_view;
+use crate::line::put_view_line;
+use crate::outline::vertices_are_sound;
+use crate::record::record_of;
+use crate::size::LIST_NUMBERS;
+use crate::size::PART_BYTES;
+use crate::text::put_rows;
+use view::Mark;
+use view::PlineViewData;
+use view::ValidationAnswer;
+use view::ViewDataValidation;
+ghost use mathlib.Core.Path.{_≡_};
+ghost use Prim.Native.Nat.{_<_, _≤_};
+ghost use lib.ListN.{length};
+ghost use Rattle.real.specs.Reply.{given};
+ghost use Rattle.plane.specs.Grade.{double};
+ghost use Rattle.view.specs.Answers.{written};
+ghost use Rattle.view.specs.Validation.{cut, verdictOf, validateOf};
+ghost use Rattle.job.specs.Wrote.{Wrote, Filled};
+ghost use Rattle.job.specs.Header.{Headed};
+ghost use Rattle.job.specs.Extent.{lastSegment};
+ghost use Rattle.job.specs.Lines.{refusedLine};
+ghost use Rattle.job.specs.Views as views;
+ghost use Rattle.job.specs.Parts as spec;
+
+// The last segment of n vertices: the closing one only if closed.
+fn last_segment(closed: bool, n: usize) -> usize
+    requires { ⌜ 2 ≤ n ⌝ }
+    ensures { λ r. ⌜ (r ≡ lastSegment closed n) × (r < n) ⌝ }
+{
+    if closed { n - 1 } else { n - 2 }
+}
+
+// The box line.
+fn put_extent(bytes: &[u8], h: Header, out: &mut [u8]) -> usize
+    requires { ⌜ (Headed (now bytes) h) × (72 ≤ length (now out)) ⌝ }
+    ensures { λ r. ⌜ (Wrote (now (out .entry)) 0 (spec.boxPart (now (bytes .entry))) (now (out .exit)) r) × (r ≤ 72) ⌝ }
+{
+    let n = h.vertices;
+    if !vertices_are_sound(bytes, n) {
+        return 0;
+    }
+    if n < 2 {
+        return put_no_box(out);
+    }
+    let last = last_segment(is_closed(h), n);
+    put_box(out, outline_box(bytes, n, last, is_fast(h)))
+}
+
+// The line and the rows of a cut view, which lists without refusal.
+fn put_cut(outline: &[f64], d: PlineViewData, k: usize, number: usize, list: &mut [f64], out: &mut [u8]) -> usize
+    requires { ⌜ (k < 10000) × (number < 10000) × (views.Lists (now outline) d (length (now list))) × (views.partBytes ≤ length (now out)) ⌝ }
+    ensures { λ r. ⌜ (Wrote (now (out .entry)) 0 (views.markText (now (outline .entry)) d k number cut) (now (out .exit)) r) × (r ≤ views.partBytes) × (now (list .exit) ≡ written double (now (outline .entry)) d (now (list .entry))) ⌝ }
+{
+    d.list(outline, list);
+    let count = d.end_index_offset + 2;
+    let e = put_view_line(out, k, number, Mark::Cut, count);
+    put_rows(out, e, list, count)
+}
+
+// A view with a verdict.
+fn put_marked(
+    outline: &[f64],
+    d: PlineViewData,
+    k: usize,
+    verdict: ViewDataValidation,
+    closed: bool,
+    list: &mut [f64],
+    out: &mut [u8],
+) -> usize
+    requires { ⌜ (k < 10000) × (length (now list) ≡ views.listNumbers) × (views.partBytes ≤ length (now out)) × (validateOf double (double .line) (now outline) d ≡ given (verdictOf verdict)) ⌝ }
+    ensures { λ r. ⌜ (Wrote (now (out .entry)) 0 (views.viewText closed (now (outline .entry)) k d) (now (out .exit)) r) × (r ≤ views.partBytes) × (now (list .exit) ≡ views.viewBuffer closed (now (outline .entry)) d (now (list .entry))) ⌝ }
+{
+    let number = verdict.number() as usize;
+    let mark = verdict.mark(closed);
+    match mark {
+        Mark::Cut => put_cut(outline, d, k, number, list, out),
+        Mark::Hold => put_view_line(out, k, number, Mark::Hold, 0),
+    }
+}
+
+// View k, with the record d.
+fn put_view(outline: &[f64], d: PlineViewData, k: usize, closed: bool, list: &mut [f64], out: &mut [u8]) -> usize
+    requires { ⌜ (k < 10000) × (length (now list) ≡ views.listNumbers) × (views.partBytes ≤ length (now out)) ⌝ }
+    ensures { λ r. ⌜ (Wrote (now (out .entry)) 0 (views.viewText closed (now (outline .entry)) k d) (now (out .exit)) r) × (r ≤ views.partBytes) × (now (list .exit) ≡ views.viewBuffer closed (now (outline .entry)) d (now (list .entry))) ⌝ }
+{
+    let answer = d.validate_for_source(outline);
+    match answer {
+        ValidationAnswer::Refused(number) => put_refused_view(out, k, number as usize),
+        ValidationAnswer::Given(verdict) => put_marked(outline, d, k, verdict, closed, list, out),
+    }
+}
+
+// Part k of a sheet with the header h.
+fn put_part(bytes: &[u8], h: Header, outline: &[f64], k: usize, list: &mut [f64], out: &mut [u8]) -> usize
+    requires { ⌜ (Headed (now bytes) h) × (length (now list) ≡ views.listNumbers) × (views.partBytes ≤ length (now out)) ⌝ }
+    ensures { λ r. ⌜ (Wrote (now (out .entry)) 0 (spec.partText (now (bytes .entry)) (now (outline .entry)) k) (now (out .exit)) r) × (r ≤ views.partBytes) × (now (list .exit) ≡ spec.partBuffer (now (bytes .entry)) (now (outline .entry)) k (now (list .entry))) ⌝ }
+{
+    if k >= h.views + 2 {
+        return 0;
+    }
+    let closed = is_closed(h);
+    if k == 0 {
+        return put_outline(out, h.vertices, h.views, closed);
+    }
+    if k == 1 {
+        return put_extent(bytes, h, out);
+    }
+    let d = record_of(bytes, 16 + 24 * h.vertices + 64 * (k - 2));
+    put_view(outline, d, k - 2, closed, list, out)
+}
+
+// Part k of a sheet's text, over the outline that opening the sheet gave, from the buffer's start: how many bytes. A cut
+// view is listed in `list`.
+pub fn sheet_part(
+    bytes: &[u8],
+    outline: &[f64],
+    k: usize,
+    list: &mut [f64; LIST_NUMBERS],
+    out: &mut [u8; PART_BYTES],
+) -> usize
+    ensures { λ r. ⌜ (Filled (spec.partText (now (bytes .entry)) (now (outline .entry)) k) (now (out .entry)) (now (out .exit)) r) × (now (list .exit) ≡ spec.partBuffer (now (bytes .entry)) (now (outline .entry)) k (now (list .entry))) ⌝ }
+{
+    if !header_is_sound(bytes) {
+        return 0;
+    }
+    put_part(bytes, header_of(bytes), outline, k, list, out)
+}
+
+// All that a refused sheet prints, from the buffer's start: how many bytes.
+pub fn refused_sheet(number: u8, out: &mut [u8; PART_BYTES]) -> usize
+    ensures { λ r. ⌜ Filled (refusedLine number) (now (out .entry)) (now (out .exit)) r ⌝ }
+{
+    put_refused(out, 0, number as usize)
+}
