@@ -9,7 +9,7 @@ use lib.ListN.{length}
 use lib.Ieee.{Float}
 use borrow.Author.Tests.{lt-ltb, le-ltb, ltb-true, ltb-false, le-leb, not-false}
 use Rattle.real.specs.Refusal.{badNumber, badOutline, badIndex}
-use Rattle.real.specs.Reply.{Reply, refused, given, check}
+use Rattle.real.specs.Reply.{Reply, given, check}
 use Rattle.plane.specs.Grade.{Grade}
 use Rattle.plane.specs.Vec.{vnearOf}
 use Rattle.plane.specs.Vertex.{posOf}
@@ -18,7 +18,7 @@ use Rattle.view.specs.View.{wrapped}
 use Rattle.view.specs.Outline.{vertexOf, countOf, numbersOk, viewable}
 use Rattle.view.specs.Record.{recordOk, needed, vertices}
 use Rattle.view.specs.Segment.{onOutline}
-use Rattle.view.specs.Validation.{Verdict, MarkCase, cut, hold, noSegments, offsetOut, startOff, endOff, endOnVertex, bulgesDiffer, valid, bulgesMatch, endVerdict, placedVerdict, countedVerdict, validateOf, markOf, markAnswer}
+use Rattle.view.specs.Validation.{Verdict, cut, hold, noSegments, offsetOut, startOff, endOff, endOnVertex, bulgesDiffer, valid, bulgesMatch, endVerdict, placedVerdict, countedVerdict, validateOf, markOf, markAnswer}
 use Rattle.view.specs.Answers.{listOf}
 use Rattle.view.specs.Cut.{Cut}
 use Rattle.view.specs.declared.view_data.PlineViewData.{PlineViewData}

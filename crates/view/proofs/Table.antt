@@ -1,7 +1,6 @@
 -- The table of document 01's cases holds: each computes, and the lists come by demand 3.
 use mathlib.Core.Path.{_≡_, refl, subst}
 use mathlib.Core.List.{List, [], _∷_}
-use Prim.Native.Nat.{ℕ}
 use native.Mathlib.Omega.{arith}
 use lib.Ieee.{Float, neg, add, sub, mul, div, ofBits, ofFields, odd, le, lt, eq}
 use Rattle.real.specs.Root.{absOf}
@@ -13,7 +12,7 @@ use Rattle.view.specs.Segment.{onSegmentOf, onOutline}
 use Rattle.view.specs.Validation.{bulgesMatch, endVerdict, placedVerdict, countedVerdict, validateOf}
 use Rattle.view.specs.Table.{Table}
 use Rattle.view.specs.Plain.{Vert, tab, Step, turn, trim, turnAt, trimAt, turnList, trimList, stepList, rowList}
-use Rattle.view.specs.View.{forward, backward, vertexAt, listOf as viewList}
+use Rattle.view.specs.View.{forward, vertexAt, viewList}
 use Rattle.view.specs.Outline.{viewable, all, numbersOk}
 use Rattle.view.specs.Record.{listed, recordOk}
 use Rattle.view.specs.Check.{placeOf, checkOf}

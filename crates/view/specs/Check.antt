@@ -1,5 +1,4 @@
 -- The checks that the view calls share, as chains of refusals in document 01's order, each before the rest of an answer.
-use Prim.Native.Nat.{ℕ}
 use mathlib.Core.Bool.{_&&_}
 use mathlib.Core.List.{List}
 use lib.Dec.{ltb, leb}
@@ -13,7 +12,7 @@ use Rattle.view.specs.declared.check.Check.{Check}
 use Rattle.view.specs.declared.check.Check.the-variants as check-case
 use Rattle.view.specs.declared.view_data.PlineViewData.{PlineViewData}
 
--- nothing to refuse
+-- the code's answer to a check; one that passes has nothing to say but that
 abbrev pub pass : Reply (Unit {0})
 pass = given tt
 

@@ -1,7 +1,7 @@
 -- The crate's `create` and `from_new_start` on closed outlines, as chains of refusals in document 01's order and then the record.
-use mathlib.Core.Bool.{Bool, true, false, cond, _&&_}
+use mathlib.Core.Bool.{Bool, false, cond, _&&_}
 use mathlib.Core.List.{List}
-use Prim.Native.Nat.{ℕ, _+_, _-_}
+use Prim.Native.Nat.{ℕ, _-_}
 use lib.Dec.{ltb, leb, eqb}
 use lib.Ieee.{Float}
 use Rattle.real.specs.Refusal.{badNumber, badTolerance, badOutline, badIndex, badOffset, notClosed}

@@ -1,15 +1,15 @@
--- Demand 3 of document 00, sentence by sentence, of the library's own answers. proofs/Demand3.antt proves it.
+-- Demand 3 of document 00, sentence by sentence, of the library's own answers: at any grade, and so at `double`. proofs/Demand3.antt proves it.
 use mathlib.Core.Path.{_≡_}
-use mathlib.Core.Bool.{Bool, false, _&&_}
+use mathlib.Core.Bool.{false, _&&_}
 use mathlib.Core.List.{List, _++_}
 use Prim.Native.Nat.{ℕ, _*_, _-_, _<_, _≤_}
 use lib.ListN.{length, drop}
 use lib.Dec.{T, ltb}
 use lib.Ieee.{Float, neg, toBits, fits}
 use Rattle.real.specs.Refusal.{badTrim}
-use Rattle.real.specs.Reply.{Reply, refused, given}
+use Rattle.real.specs.Reply.{refused, given}
 use Rattle.plane.specs.Grade.{Grade}
-use Rattle.view.specs.Plain.{Vert, Step, turn, trim, flat, rowList}
+use Rattle.view.specs.Plain.{Vert, Step, turn, trim, flat, rowList, PlainSteps}
 use Rattle.view.specs.Record.{listed}
 use Rattle.view.specs.Answers.{listOf, listBuffer, reverseOf, trimOf}
 use Rattle.view.specs.Rows.{step, row}
@@ -41,6 +41,8 @@ module _ (g : Grade) (s : List Float) where
   pub record Kept (d : PlineViewData) (l : List (Vert Float)) : Type 0 where
     -- "Each resulting record lists what the same steps do to the plain list."
     pub lists : Lists d l
+    -- "Reversal turns the positions round, gives each segment its old bulge negated, and ends in bulge plus zero. Trim i to j keeps those vertices and ends in plus zero"
+    pub plain : PlainSteps neg (g .zero) l
     -- a reversal is given
     pub turned : reverseOf g s d ≡ given (step g s turn d)
     -- "of n vertices [a trim] is refused exactly when 0 <= i < j < n does not hold, and a refused trim changes nothing"

@@ -8,10 +8,11 @@ use Rattle.plane.specs.Grade.{Grade}
 use Rattle.plane.specs.Range.{bulgeOk, pointOk, vertexOk}
 use Rattle.plane.specs.declared.pline_vertex.PlineVertex.{PlineVertex}
 use Rattle.view.specs.Plain.{Vert}
-use Rattle.view.specs.View.{View, wrapped, forward, backward, vertexAt, listOf, part}
+use Rattle.view.specs.View.{View, wrapped, forward, backward, vertexAt, viewList, part}
 use Rattle.view.specs.Outline.{vertexOf, countOf, vertOf, ofVert, srcOf}
 use Rattle.view.specs.declared.view_data.PlineViewData.{PlineViewData}
 
+-- the struct as a view, and back
 abbrev pub viewOf : PlineViewData → View Float
 viewOf d =
     record {
@@ -47,6 +48,7 @@ unfoldable pub evenBits : Grade → PlineViewData → Bool
 evenBits g d = not (eqb (d .«end_index_offset») 0) || eqb (toBits (g .format) (d .«updated_start» .bulge)) (toBits (g .format) (d .«updated_end_bulge»))
 
 module _ (g : Grade) where
+  -- position k of the forward list and of the inverted one, and the crate's `get_vertex`, over the structs
   abbrev pub forwardOf : List Float → PlineViewData → ℕ → PlineVertex
   forwardOf s d k = ofVert (forward (g .zero) (srcOf s) (countOf s) (viewOf d) k)
 
@@ -58,8 +60,9 @@ module _ (g : Grade) where
 
   -- the view's list
   abbrev pub listed : List Float → PlineViewData → List (Vert Float)
-  listed s d = listOf neg (g .zero) (srcOf s) (countOf s) (viewOf d)
+  listed s d = viewList neg (g .zero) (srcOf s) (countOf s) (viewOf d)
 
+  -- the record of positions a to b of the forward list
   abbrev pub partOf : List Float → PlineViewData → ℕ → ℕ → PlineViewData
   partOf s d a b = dataOf (part (g .zero) (srcOf s) (countOf s) a b (viewOf d))
 

@@ -18,7 +18,6 @@ use real::NOT_CLOSED;
 use seg::SplitResult;
 ghost use mathlib.Core.Path.{_≡_};
 ghost use mathlib.Core.Bool.{_&&_};
-ghost use Prim.Native.Nat.{_<_};
 ghost use Rattle.plane.specs.Grade.{double};
 ghost use Rattle.plane.specs.Range.{pointOk};
 ghost use Rattle.view.specs.Outline.{countOf, numbersOk};

@@ -1,5 +1,4 @@
 -- The offset's test is the definition's; else the vertex before.
-use mathlib.Core.Path.{refl}
 use borrow.Author.Needs.{needs}
 use borrow.Author.Tests.{eq-eqb, ne-eqb}
 use Rattle.view.specs.Create.{endOnTop}

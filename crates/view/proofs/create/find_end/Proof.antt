@@ -1,8 +1,6 @@
 -- The fuzzy test is the definition's, on the vertex by its promise.
-use mathlib.Core.Path.{sym, _∙_}
 use borrow.Author.Needs.{needs}
 use Rattle.real.proofs.Pick.{yes, no}
-use Rattle.plane.specs.Grade.{double}
 use Rattle.view.specs.Create.{endingOf}
 use Rattle.view.proofs.create.find_end.Statement.{statement}
 use Rattle.view.proofs.create.find_end.Tie as tie

@@ -2,7 +2,6 @@
 use mathlib.Core.Path.{refl}
 use borrow.Author.Needs.{needs}
 use Rattle.real.proofs.Pick.{yes, no}
-use Rattle.plane.specs.Grade.{double}
 use Rattle.view.specs.Create.{movedOn}
 use Rattle.view.proofs.new_start.move_on.Statement.{statement}
 use Rattle.view.proofs.new_start.move_on.Tie as tie

@@ -1,9 +1,7 @@
 -- The fuzzy test is the definition's, on vertex k by its promise.
 use mathlib.Core.Path.{refl}
-use native.Mathlib.Omega.{arith}
 use borrow.Author.Needs.{needs}
 use Rattle.real.proofs.Pick.{yes, no}
-use Rattle.plane.specs.Grade.{double}
 use Rattle.view.specs.Create.{roundEnding}
 use Rattle.view.proofs.new_start.round_ending.Statement.{statement}
 use Rattle.view.proofs.new_start.round_ending.Tie as tie

@@ -1,5 +1,4 @@
 -- Segment k's two vertices by their promises; all of the outline's are in range.
-use mathlib.Core.Path.{_≡_}
 use borrow.Author.Needs.{needs}
 use Rattle.plane.specs.Grade.{double}
 use Rattle.view.specs.Segment.{onOutline}

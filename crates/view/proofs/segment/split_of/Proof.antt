@@ -1,5 +1,5 @@
 -- The numbers are in range, so the segment call answers its split.
-use mathlib.Core.Path.{_≡_, sym, ap, _∙_}
+use mathlib.Core.Path.{sym, ap, _∙_}
 use borrow.Author.Needs.{needs}
 use Rattle.plane.specs.Grade.{double}
 use Rattle.seg.specs.Split.{splitReply}

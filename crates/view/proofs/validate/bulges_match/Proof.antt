@@ -1,5 +1,4 @@
 -- The test of the offset is the definition's.
-use mathlib.Core.Path.{_≡_}
 use borrow.Author.Tests.{eq-eqb, ne-eqb}
 use Rattle.view.specs.Validation.{bulgesMatch}
 use Rattle.view.proofs.validate.bulges_match.Statement.{statement}

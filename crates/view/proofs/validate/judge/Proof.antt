@@ -1,6 +1,5 @@
 -- The start's test is the definition's; the end is judged on its segment and that segment's first vertex.
-use mathlib.Core.Path.{_≡_, refl}
-use mathlib.Core.Bool.{true, _&&_}
+use mathlib.Core.Path.{refl}
 use borrow.Author.Needs.{needs}
 use Rattle.real.proofs.Pick.{good, bad}
 use Rattle.plane.specs.Grade.{double}

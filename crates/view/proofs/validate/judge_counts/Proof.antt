@@ -1,6 +1,5 @@
 -- The tests of the counts are the definition's, in its order.
-use mathlib.Core.Path.{_≡_, ap, _∙_}
-use borrow.Author.Needs.{needs}
+use mathlib.Core.Path.{ap}
 use borrow.Author.Tests.{lt-ltb, le-ltb}
 use Rattle.real.specs.Reply.{given}
 use denote.Ref.{now}

@@ -1,7 +1,6 @@
 -- The guards are the definition's tests, in its order; past them the view ends as `find_end` finds.
-use mathlib.Core.Path.{refl, sym, _∙_}
+use mathlib.Core.Path.{refl}
 use native.Mathlib.Omega.{arith}
-use borrow.Author.Needs.{needs}
 use borrow.Author.Tests.{lt-ltb, le-ltb, ltb-true}
 use Rattle.real.proofs.Pick.{picks, good, bad, passed}
 use denote.Ref.{now}

@@ -1,7 +1,5 @@
 -- The guards are the definition's tests, in its order; past them the view goes round from the segment that `move_on` finds.
 use mathlib.Core.Path.{refl}
-use mathlib.Core.Bool.{not}
-use borrow.Author.Needs.{needs}
 use borrow.Author.Tests.{lt-ltb, le-ltb}
 use Rattle.real.proofs.Pick.{picks, good, bad, passed, given-is}
 use denote.Ref.{now}

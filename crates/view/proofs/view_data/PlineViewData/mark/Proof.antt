@@ -1,5 +1,5 @@
 -- The verdict's mark, or its refusal.
-use mathlib.Core.Path.{_≡_, sym, ap, _∙_}
+use mathlib.Core.Path.{sym, ap, _∙_}
 use borrow.Author.Needs.{needs}
 use Rattle.real.specs.Reply.{given}
 use Rattle.view.specs.Validation.{markAnswer, validationReply}

@@ -1,6 +1,4 @@
 -- The two guards are the definition's tests; past them the counts are judged.
-use borrow.Author.Needs.{needs}
-use mathlib.Core.Path.{refl}
 use Rattle.real.proofs.Pick.{picks, passed}
 use Rattle.view.specs.Validation.{validateOf}
 use Rattle.view.proofs.view_data.PlineViewData.validate_for_source.Statement.{statement}

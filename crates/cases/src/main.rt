@@ -1,0 +1,128 @@
+// Document 01's cases that are run: each is a line of the stored output.
+use io::print_decimal;
+use libc::STDOUT_FILENO;
+use plane::PlineVertex;
+use plane::Vector2;
+use plane::VertexAnswer;
+use plane::fuzzy_eq_eps;
+use seg::BoolAnswer;
+use seg::PointAnswer;
+use seg::SplitAnswer;
+use seg::seg_closest_point;
+use seg::seg_distance_is_greater_than;
+use seg::seg_split_at_point;
+use view::CountAnswer;
+use view::PlineViewData;
+
+fn say(text: &[u8]) {
+    io::write_all(STDOUT_FILENO, text);
+}
+
+fn say_refusal(n: u8) {
+    say(b"refused ");
+    print_decimal(STDOUT_FILENO, n as u64);
+    say(b"\n");
+}
+
+fn say_whether(yes: bool) {
+    if yes {
+        say(b"yes\n");
+    } else {
+        say(b"no\n");
+    }
+}
+
+// H is (0,0,1) to (1,0).
+fn start_of_h() -> PlineVertex {
+    PlineVertex::new(0.0, 0.0, 1.0)
+}
+
+fn end_of_h() -> PlineVertex {
+    PlineVertex::new(1.0, 0.0, 0.0)
+}
+
+// A view with offset 0 from (0,0) to (0,0), which lists over any outline.
+fn short_view() -> PlineViewData {
+    PlineViewData {
+        start_index: 0,
+        end_index_offset: 0,
+        updated_start: PlineVertex::new(0.0, 0.0, 0.0),
+        updated_end_bulge: 0.0,
+        end_point: Vector2 { x: 0.0, y: 0.0 },
+        inverted_direction: false,
+    }
+}
+
+fn position_2() {
+    say(b"position 2 with offset 0: ");
+    let outline = [0.0f64; 6];
+    let answer = short_view().get_vertex(&outline, 2);
+    match answer {
+        VertexAnswer::Given(_) => say(b"a vertex\n"),
+        VertexAnswer::Refused(n) => say_refusal(n),
+    }
+}
+
+fn tolerance_0() {
+    say(b"tolerance 0: ");
+    let answer = seg_closest_point(start_of_h(), end_of_h(), Vector2 { x: 0.0, y: 0.0 }, 0.0);
+    match answer {
+        PointAnswer::Given(_) => say(b"a point\n"),
+        PointAnswer::Refused(n) => say_refusal(n),
+    }
+}
+
+fn say_count(outline: &[f64]) {
+    let answer = short_view().vertex_count(outline);
+    match answer {
+        CountAnswer::Given(_) => say(b"pass\n"),
+        CountAnswer::Refused(n) => say_refusal(n),
+    }
+}
+
+fn most_vertices() {
+    let outline = [0.0f64; 3075];
+    say(b"1,024 vertices: ");
+    say_count(&outline[..3072]);
+    say(b"1,025 vertices: ");
+    say_count(&outline);
+}
+
+// tan(pi/8), to the nearest f64.
+fn is_tan_of_eighth(b: f64) -> bool {
+    fuzzy_eq_eps(b, 0.41421356237309503, 1e-8)
+}
+
+fn split_of_h() {
+    say(b"H split at (0.5,-0.5), both bulges fuzzily tan(pi/8): ");
+    let p = Vector2 { x: 0.5, y: -0.5 };
+    let answer = seg_split_at_point(start_of_h(), end_of_h(), p, 1e-5);
+    match answer {
+        SplitAnswer::Given(split) => {
+            let a = split.updated_start;
+            let b = split.split_vertex;
+            say_whether(is_tan_of_eighth(a.bulge) && is_tan_of_eighth(b.bulge));
+        }
+        SplitAnswer::Refused(n) => say_refusal(n),
+    }
+}
+
+fn say_distance(d: f64) {
+    let p = Vector2 { x: 0.5, y: 0.0 };
+    let answer = seg_distance_is_greater_than(start_of_h(), end_of_h(), p, d, 1e-5);
+    match answer {
+        BoolAnswer::Given(yes) => say_whether(yes),
+        BoolAnswer::Refused(n) => say_refusal(n),
+    }
+}
+
+fn main() {
+    position_2();
+    tolerance_0();
+    most_vertices();
+    split_of_h();
+    say(b"distance from (0.5,0) to H over 0.5: ");
+    say_distance(0.5);
+    say(b"over 0.25: ");
+    say_distance(0.25);
+}
