@@ -2,7 +2,7 @@
 use mathlib.Core.Path.{_≡_, refl, sym, ap, _∙_}
 use mathlib.Core.Bool.{true}
 use mathlib.Core.List.{List, _++_}
-use Prim.Native.Nat.{ℕ, _+_, _*_}
+use Prim.Native.Nat.{ℕ, _+_, _*_, _≤_}
 use native.Mathlib.Omega.{arith}
 use lib.ListN.{length, drop, length-append, length-drop}
 use lib.Ieee.{Float}
@@ -59,7 +59,13 @@ module _ (b : List ℕ) (o : Opened) (e : openOf b ≡ given o) where
   unfolding openOf
   opened-is = same-given (sym e ∙ accepted-rest b _ opened-accepted)
 
-  -- the outline's buffer keeps its length
+  -- its numbers fit the outline's buffer, which keeps its length
+  pub opened-few : o .numbers ≤ outlineNumbers
+  opened-few =
+      let h = headed b (headerOf b) (opened-accepted .header) refl in
+      let n : o .numbers ≡ 3 * vertices b = ap (λ (p : Opened). p .numbers) opened-is in
+      omega (arith, h .vertices)
+
   pub opened-length : (l : List Float) → length l ≡ outlineNumbers → length (openBuffer b l) ≡ outlineNumbers
   unfolding openBuffer bufferAfter numbersIn
   opened-length l n =

@@ -36,10 +36,9 @@ fn write_parts(bytes: &[u8], outline: &[f64], parts: usize) {
 }
 
 // Writes all that a refused sheet prints.
-fn write_refused(number: u8) -> bool {
-    let mut text = [0u8; PART_BYTES];
-    let n = job::refused_sheet(number, &mut text);
-    write(&text, n)
+fn write_refused(number: u8, text: &mut [u8; PART_BYTES]) -> bool {
+    let n = job::refused_sheet(number, text);
+    write(text, n)
 }
 
 fn main() {
@@ -51,7 +50,8 @@ fn main() {
     let answer = job::open_sheet(bytes, &mut outline);
     match answer {
         OpenAnswer::Refused(number) => {
-            write_refused(number);
+            let mut text = [0u8; PART_BYTES];
+            write_refused(number, &mut text);
         }
         OpenAnswer::Given(opened) => {
             let numbers = opened.numbers;
