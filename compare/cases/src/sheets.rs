@@ -6,7 +6,7 @@ use oracle::record::{RECORD_BYTES, encode};
 use oracle::sheet::{LONGEST, sheet_text};
 use oracle::{PlineViewData, view};
 use std::io::{ErrorKind, Write};
-use std::path::Path;
+use std::path::{Path, PathBuf};
 use std::process::{Command, Stdio};
 use std::thread;
 
@@ -199,4 +199,21 @@ pub fn compare_sheets(
         };
         report.judge_sheet(&bytes, &sheet_text(&bytes), &program(&bytes));
     }
+}
+
+/// The program `sheet` that is judged: `BISQUEFERN_SHEET`, else target/bin/sheet of the repository.
+pub fn sheet_program() -> PathBuf {
+    let program = match std::env::var_os("BISQUEFERN_SHEET") {
+        Some(path) => PathBuf::from(path),
+        None => PathBuf::from(concat!(
+            env!("CARGO_MANIFEST_DIR"),
+            "/../../target/bin/sheet"
+        )),
+    };
+    assert!(
+        program.exists(),
+        "{} is missing: run rt check sheet first",
+        program.display()
+    );
+    program
 }

@@ -4,7 +4,6 @@
 //! 0 or document 01's refusal number comes back.
 
 use oracle::Library;
-use std::path::PathBuf;
 
 /// What each function returns: 0 or a refusal number.
 type Refusal = u8;
@@ -443,21 +442,4 @@ impl Library for Bisquefern {
             )
         }
     }
-}
-
-/// The program `sheet` that is judged: `BISQUEFERN_SHEET`, else target/bin/sheet of the repository.
-pub fn sheet_program() -> PathBuf {
-    let program = match std::env::var_os("BISQUEFERN_SHEET") {
-        Some(path) => PathBuf::from(path),
-        None => PathBuf::from(concat!(
-            env!("CARGO_MANIFEST_DIR"),
-            "/../../target/bin/sheet"
-        )),
-    };
-    assert!(
-        program.exists(),
-        "{} is missing: run rt check sheet first",
-        program.display()
-    );
-    program
 }

@@ -3,9 +3,10 @@
 //! `BISQUEFERN_ROUNDS` repeats it that often, each time from another seed.
 
 use cases::compare::{Report, compare_calls};
+use cases::sheets::sheet_program;
 use cases::sheets::{compare_sheets, printed};
 use cases::stored;
-use face::{Bisquefern, sheet_program};
+use face::Bisquefern;
 use oracle::Oracle;
 
 fn rounds() -> u64 {

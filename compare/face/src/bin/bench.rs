@@ -6,8 +6,9 @@
 use cases::case::Call;
 use cases::generate::Generator;
 use cases::random::Random;
+use cases::sheets::sheet_program;
 use cases::sheets::{largest_outline, largest_sheet, whole_view};
-use face::{Bisquefern, sheet_program};
+use face::Bisquefern;
 use oracle::record::encode;
 use oracle::{Library, Oracle};
 use std::fs::{self, File};

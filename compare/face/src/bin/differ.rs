@@ -3,8 +3,8 @@
 //! Exit status 1 where anything differs, or where some answer, refusal or verdict was not reached.
 
 use cases::compare::{Report, compare_calls};
-use cases::sheets::{compare_sheets, printed};
-use face::{Bisquefern, sheet_program};
+use cases::sheets::{compare_sheets, printed, sheet_program};
+use face::Bisquefern;
 use std::{env, process::ExitCode};
 
 fn main() -> ExitCode {
