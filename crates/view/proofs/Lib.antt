@@ -1,4 +1,4 @@
--- Laws of plain lists and of views over any numbers, of the checks, and the theorems: Lists, Demand3, Replies, Shape, Table.
+-- Laws of plain lists and of views over any numbers, of the checks and the segments, and the theorems: Lists, Demand3, Replies, Shape, Made, Cut, Table.
 pub mod Tab
 pub mod All
 pub mod Steps
