@@ -10,8 +10,7 @@ use lib.Ieee.{Float, neg}
 use Rattle.real.specs.Reply.{Reply, refused, given}
 use Rattle.plane.specs.Grade.{double}
 use Rattle.view.specs.Plain.{Vert, tab, flat}
-use Rattle.view.specs.View.{vertexAt}
-use Rattle.view.specs.View as plain
+use Rattle.view.specs.View.{vertexAt, viewList}
 use Rattle.view.specs.Outline.{countOf, srcOf}
 use Rattle.view.specs.Record.{viewOf, vertices, needed, listed}
 use Rattle.view.specs.Answers.{written, listBuffer, bufferAfter}
@@ -67,7 +66,7 @@ module _ (s : List Float) (d : PlineViewData) (l : List Float) where
   list-written h = ap (λ (r : Reply ℕ). bufferAfter r l (written double s d l)) (h .list)
 
   pub list-rows : rows (written double s d l) (vertices d) ≡ numbered row 0 (listed double s d)
-  unfolding rows written plain.listOf
+  unfolding rows written viewList
   list-rows =
       let f = vertexAt neg (double .zero) (srcOf s) (countOf s) (viewOf d) in
       joined-ext _ _ (vertices d) (λ k h. ap (row k) (flat-at f (vertices d) k (drop (needed d) l) h))
