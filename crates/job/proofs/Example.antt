@@ -7,7 +7,7 @@ use Rattle.seg.specs.Arc.{radiusOf, centerOf}
 use Rattle.seg.specs.Closest.{arcClosest, closestOf}
 use Rattle.seg.specs.Bounds.{startRadius, endRadius, arcBoxBy, arcBox, boxOf}
 use Rattle.view.specs.Plain.{tab}
-use Rattle.view.specs.View.{forward, vertexAt, listOf}
+use Rattle.view.specs.View.{forward, vertexAt, viewList}
 use Rattle.view.specs.Outline.{all, numbersOk}
 use Rattle.view.specs.Record.{recordOk}
 use Rattle.view.specs.Segment.{onSegmentOf, onOutline}
@@ -25,5 +25,5 @@ use Rattle.job.specs.Parts.{boxLine, wholeText, sheetText}
 use Rattle.job.specs.Example.{exampleSheet, exampleText}
 
 pub example : sheetText exampleSheet ≡ exampleText
-unfolding ofBits toBits neg add sub mul div lt le eq absOf rootOf wholeOutline coordOk bulgeOk pointOk vertexOk radiusOf centerOf arcClosest closestOf startRadius endRadius arcBoxBy arcBox boxOf tab forward vertexAt listOf all numbersOk recordOk onSegmentOf onOutline bulgesMatch endVerdict placedVerdict countedVerdict validateOf markOf le16 le32 le64 floatAt hex decimals decimal float row numbered headerFits headerOk formOk numbersIn boxTo recordsOf sheetOf refusedLine outlineLine floats boundsLine viewHead viewLine markText verdictText viewText boxLine wholeText sheetText
+unfolding ofBits toBits neg add sub mul div lt le eq absOf rootOf wholeOutline coordOk bulgeOk pointOk vertexOk radiusOf centerOf arcClosest closestOf startRadius endRadius arcBoxBy arcBox boxOf tab forward vertexAt viewList all numbersOk recordOk onSegmentOf onOutline bulgesMatch endVerdict placedVerdict countedVerdict validateOf markOf le16 le32 le64 floatAt hex decimals decimal float row numbered headerFits headerOk formOk numbersIn boxTo recordsOf sheetOf refusedLine outlineLine floats boundsLine viewHead viewLine markText verdictText viewText boxLine wholeText sheetText
 example = refl

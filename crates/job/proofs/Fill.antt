@@ -1,6 +1,6 @@
 -- A buffer that is filled from its start, one store after the other.
 use mathlib.Core.Path.{_≡_, sym, ap, _∙_}
-use mathlib.Core.List.{List, [], _∷_, _++_}
+use mathlib.Core.List.{List, _∷_, _++_}
 use Prim.Native.Nat.{ℕ, suc, _<_}
 use lib.ListN.{length, drop, set, getD}
 use lib.Seq.{set-at, drop-cons, append-snoc}

@@ -1,14 +1,16 @@
+-- The theorems: Whole, Records, Viewing, Same, Example. Sheets has what the program uses.
 mod Tests
+mod Replies
 mod Writing
 mod Digits
-mod Fill
 mod Joined
-mod Replies
+mod Fill
 mod Boxes
 mod Heads
 pub mod Sheets
-mod Viewing
+pub mod Viewing
 mod Parting
 pub mod Whole
 pub mod Records
+pub mod Same
 pub mod Example

@@ -135,10 +135,32 @@ module _ (b : List ℕ) (p : Plain b) where
       let way : directionOf (eqb (le32 b 56) 1) ≡ le32 b 56 = one-bit (le32 b 56) (leb-true _ _ (sound .0)) in
       let none : 0 ≡ le32 b 60 = sym (eqb-true _ _ (sound .1)) in
       let whole : recordBytes (recordOf b 0) ≡ tab at 64 =
-          simp (eight-back 8 (p .floats 0 (omega arith)), eight-back 16 (p .floats 1 (omega arith)), eight-back 24 (p .floats 2 (omega arith)),
-            eight-back 32 (p .floats 3 (omega arith)), eight-back 40 (p .floats 4 (omega arith)), eight-back 48 (p .floats 5 (omega arith)), way, ap bytes4 none,
-            four-back 0, four-back 4, four-back 8, four-back 12, four-back 16, four-back 20, four-back 24, four-back 28, four-back 32, four-back 36,
-            four-back 40, four-back 44, four-back 48, four-back 52, four-back 56, four-back 60) in
+      simp (
+        eight-back 8 (p .floats 0 (omega arith)),
+        eight-back 16 (p .floats 1 (omega arith)),
+        eight-back 24 (p .floats 2 (omega arith)),
+        eight-back 32 (p .floats 3 (omega arith)),
+        eight-back 40 (p .floats 4 (omega arith)),
+        eight-back 48 (p .floats 5 (omega arith)),
+        way,
+        ap bytes4 none,
+        four-back 0,
+        four-back 4,
+        four-back 8,
+        four-back 12,
+        four-back 16,
+        four-back 20,
+        four-back 24,
+        four-back 28,
+        four-back 32,
+        four-back 36,
+        four-back 40,
+        four-back 44,
+        four-back 48,
+        four-back 52,
+        four-back 56,
+        four-back 60,
+      ) in
       whole ∙ ap (tab at) (sym n) ∙ ext-getD 0 (tab at (length b)) b (length-tab at (length b)) (λ i h. getD-tab at (length b) i 0 (subst (λ (m : ℕ). i < m) (length-tab at (length b)) h))
 
   -- bytes that are read as a record are that record's bytes

@@ -1,13 +1,14 @@
 -- What a sheet's check says, by its header at hand; and what an accepted sheet is.
-use mathlib.Core.Path.{_≡_, refl, sym, ap, _∙_}
-use mathlib.Core.Bool.{true}
+use mathlib.Core.Path.{_≡_, refl, sym, ap, ap₂, _∙_}
+use mathlib.Core.Bool.{Bool, true, false}
 use mathlib.Core.List.{List, _++_}
-use Prim.Native.Nat.{ℕ, _+_, _*_, _≤_}
+use Prim.Native.Nat.{ℕ, _+_, _*_, _≤_, _<_}
 use native.Mathlib.Omega.{arith}
-use lib.ListN.{length, drop, length-append, length-drop}
+use lib.ListN.{length, take, drop, length-append, length-drop}
+use lib.Seq.{take-at}
 use lib.Ieee.{Float}
 use Rattle.real.specs.Refusal.{badNumber, badSheet, badRecord}
-use Rattle.real.specs.Reply.{Reply, given}
+use Rattle.real.specs.Reply.{Reply, refused, given}
 use Rattle.plane.specs.Grade.{double}
 use Rattle.plane.specs.Range.{vertexOk}
 use Rattle.view.specs.Outline.{all}
@@ -18,7 +19,7 @@ use Rattle.job.specs.declared.sheet.Opened.{Opened}
 use Rattle.job.specs.Header.{headerOf, headerOk, Headed}
 use Rattle.job.specs.Record.{recordOk}
 use Rattle.job.specs.Outline.{vertexIn, numbersIn}
-use Rattle.job.specs.Sheet.{vertices, views, outlineOf, recordsOk, verticesOk, sheetOf, outlineNumbers, openOf, openBuffer}
+use Rattle.job.specs.Sheet.{vertices, views, outlineOf, recordsOk, verticesOk, sheetOf, sheetBytes, outlineNumbers, openOf, openBuffer}
 use Rattle.job.proofs.Replies.{check-given, same-given}
 use Rattle.job.proofs.Heads.{headed}
 
@@ -48,6 +49,15 @@ module _ {A : Type 0} (b : List ℕ) where
   unfolding sheetOf
   accepted-rest rest a = simp (a .header, a .records, a .vertices)
 
+-- a longer input than the longest sheet is refused 11
+pub too-long : (b : List ℕ) → sheetBytes < length b → openOf b ≡ refused badSheet
+unfolding openOf sheetOf
+too-long b n = simp (go (headerOk b) refl)
+  where
+    go : (t : Bool) → headerOk b ≡ t → headerOk b ≡ false
+    go false e = e
+    go true e = let h = headed b (headerOf b) e refl in absurd (omega (arith, h .size, h .vertices, h .views))
+
 -- ---- opening it
 
 module _ (b : List ℕ) (o : Opened) (e : openOf b ≡ given o) where
@@ -59,7 +69,14 @@ module _ (b : List ℕ) (o : Opened) (e : openOf b ≡ given o) where
   unfolding openOf
   opened-is = same-given (sym e ∙ accepted-rest b _ opened-accepted)
 
-  -- its numbers fit the outline's buffer, which keeps its length
+  -- the numbers that it answers are those of the sheet's outline
+  pub opened-outline : (l : List Float) → take (o .numbers) (openBuffer b l) ≡ outlineOf b
+  unfolding openBuffer bufferAfter numbersIn
+  opened-outline l =
+      ap₂ (λ (p : Opened) (r : Reply Opened). take (p .numbers) (bufferAfter r l (outlineOf b ++ drop (3 * vertices b) l))) opened-is e
+      ∙ take-at (outlineOf b) (drop (3 * vertices b) l) (3 * vertices b) (length-tab _ (3 * vertices b))
+
+  -- they fit the outline's buffer, which keeps its length
   pub opened-few : o .numbers ≤ outlineNumbers
   opened-few =
       let h = headed b (headerOf b) (opened-accepted .header) refl in

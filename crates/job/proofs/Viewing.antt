@@ -1,34 +1,26 @@
 -- What a view prints, case by case. A cut view never fails to list, and what is printed of its buffer is its list.
-use mathlib.Core.Path.{_≡_, refl, sym, ap, ap₂, subst, _∙_}
-use mathlib.Core.Bool.{Bool, true, _&&_}
+use mathlib.Core.Path.{_≡_, refl, sym, ap, ap₂, _∙_}
+use mathlib.Core.Bool.{Bool}
 use mathlib.Core.List.{List, _++_}
-use Prim.Native.Nat.{ℕ, zero, suc, _+_, _*_, _/_, _%_, _≤_, _<_}
-use native.Mathlib.Nat.{le-refl, le-of-suc-le-suc, not-suc-le-zero}
+use Prim.Native.Nat.{ℕ, zero, suc, _+_, _*_, _≤_, _<_}
+use native.Mathlib.Nat.{le-of-suc-le-suc, not-suc-le-zero}
 use native.Mathlib.Omega.{arith}
-use lib.ListN.{length, drop, getD}
-use lib.Dec.{eqb, leb, ltb}
-use lib.Ieee.{Float, nan, neg}
-use borrow.Author.Tests.{leb-true}
-use Rattle.real.specs.Refusal.{badNumber, badOutline, badIndex, badOffset}
+use lib.ListN.{length, drop}
+use lib.Ieee.{Float, neg}
 use Rattle.real.specs.Reply.{Reply, refused, given}
 use Rattle.plane.specs.Grade.{double}
-use Rattle.plane.specs.Range.{mostVertices, wholeOutline}
 use Rattle.view.specs.Plain.{Vert, tab, flat}
-use Rattle.view.specs.View.{vertexAt}
-use Rattle.view.specs.View as plain
-use Rattle.view.specs.Outline.{countOf, srcOf, viewable, numbersOk}
-use Rattle.view.specs.Record.{viewOf, vertices, needed, listed, recordOk}
-use Rattle.view.specs.Check.{placeOf, checkOf}
-use Rattle.view.specs.Answers.{listOf, written, listBuffer, bufferAfter}
-use Rattle.view.specs.Validation.{Verdict, validateOf, MarkCase, cut, hold, markOf, markAnswer}
+use Rattle.view.specs.View.{vertexAt, viewList}
+use Rattle.view.specs.Outline.{countOf, srcOf}
+use Rattle.view.specs.Record.{viewOf, vertices, needed, listed}
+use Rattle.view.specs.Answers.{written, listBuffer, bufferAfter}
+use Rattle.view.specs.Validation.{Verdict, validateOf, MarkCase, cut, markOf, markAnswer}
 use Rattle.view.specs.declared.view_data.PlineViewData.{PlineViewData}
-use Rattle.view.proofs.All.{and-both}
 use Rattle.view.proofs.Cut.{cut-says, cut-clear, cut-lists as lists}
 use Rattle.job.specs.Text.{row, numbered, rows}
 use Rattle.job.specs.Lines.{refusedLine, viewHead}
 use Rattle.job.specs.Views.{markText, verdictText, viewText, markBuffer, verdictBuffer, viewBuffer, listNumbers, Lists}
 use Rattle.job.proofs.Joined.{joined-ext, numbered-joined}
-use Rattle.job.proofs.Replies.{check-given}
 
 module _ (closed : Bool) (s : List Float) (d : PlineViewData) (k : ℕ) (l : List Float) where
   pub refused-text : (n : ℕ) → validateOf double (double .line) s d ≡ refused n → viewHead k ++ refusedLine n ≡ viewText closed s k d
@@ -74,7 +66,7 @@ module _ (s : List Float) (d : PlineViewData) (l : List Float) where
   list-written h = ap (λ (r : Reply ℕ). bufferAfter r l (written double s d l)) (h .list)
 
   pub list-rows : rows (written double s d l) (vertices d) ≡ numbered row 0 (listed double s d)
-  unfolding rows written plain.listOf
+  unfolding rows written viewList
   list-rows =
       let f = vertexAt neg (double .zero) (srcOf s) (countOf s) (viewOf d) in
       joined-ext _ _ (vertices d) (λ k h. ap (row k) (flat-at f (vertices d) k (drop (needed d) l) h))

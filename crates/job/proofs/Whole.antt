@@ -4,21 +4,21 @@ use mathlib.Core.List.{List, _++_, append-assoc}
 use Prim.Native.Nat.{ℕ, suc, _+_, _-_}
 use native.Mathlib.Numerals.{add-two}
 use native.Mathlib.Omega.{arith}
+use lib.ListN.{take}
 use lib.Ieee.{Float}
 use Rattle.real.specs.Refusal.{badNumber, badSheet, badRecord}
-use Rattle.real.specs.Reply.{Reply, refused, given}
-use Rattle.view.specs.declared.view_data.PlineViewData.{PlineViewData}
+use Rattle.real.specs.Reply.{refused, given}
 use Rattle.job.specs.declared.sheet.Opened.{Opened}
 use Rattle.job.specs.Header.{headerOf, headerOk, closed}
 use Rattle.job.specs.Record.{recordOf}
 use Rattle.job.specs.Text.{numbered, joined}
-use Rattle.job.specs.Sheet.{views, outlineOf, recordPlace, recordsOf, recordsOk, verticesOk, sheetOf, openOf}
-use Rattle.job.specs.Lines.{refusedLine, outlineLine}
+use Rattle.job.specs.Sheet.{views, outlineOf, recordPlace, recordsOf, recordsOk, verticesOk, sheetOf, openOf, openBuffer}
+use Rattle.job.specs.Lines.{refusedLine}
 use Rattle.job.specs.Views.{viewText}
 use Rattle.job.specs.Parts.{boxLine, wholeText, answerText, sheetText, boxPart, partText}
 use Rattle.job.proofs.Joined.{joined-ext, joined-first, numbered-joined}
 use Rattle.job.proofs.Replies.{never-given, refused-alike}
-use Rattle.job.proofs.Sheets.{Accepted, accepted-rest, opened-accepted, opened-is}
+use Rattle.job.proofs.Sheets.{Accepted, accepted-rest, opened-accepted, opened-is, opened-outline}
 use Rattle.job.proofs.Parting.{outline-part, box-part, view-part}
 
 module _ (b : List ℕ) (a : Accepted b) where
@@ -50,13 +50,14 @@ module _ (b : List ℕ) (a : Accepted b) where
       (ap₂ (λ (t u : List ℕ). t ++ u) (sym (outline-part b (outlineOf b) (outlineOf b) 0 (a .header) refl .0)) (sym (box-part b (outlineOf b) (outlineOf b) 1 (a .header) refl .0) ∙ box-is))
       views-are
 
--- a sheet that opens: its parts, over its own outline
-pub parts-whole : (b : List ℕ) (o : Opened) → openOf b ≡ given o → joined (partText b (outlineOf b)) (o .parts) ≡ sheetText b
+-- a sheet that opens: its parts, over the outline that opening it left in any buffer l
+pub parts-whole : (b : List ℕ) (l : List Float) (o : Opened) → openOf b ≡ given o → joined (partText b (take (o .numbers) (openBuffer b l))) (o .parts) ≡ sheetText b
 unfolding sheetText
-parts-whole b o e =
+parts-whole b l o e =
     let a = opened-accepted b o e in
-    ap (λ (p : Opened). joined (partText b (outlineOf b)) (p .parts)) (opened-is b o e)
-    ∙ whole b a ∙ sym (ap answerText (accepted-rest b (given (wholeText b)) a))
+    ap₂ (λ (s : List Float) (p : Opened). joined (partText b s) (p .parts)) (opened-outline b o e l) (opened-is b o e)
+    ∙ whole b a
+    ∙ sym (ap answerText (accepted-rest b (given (wholeText b)) a))
 
 -- a sheet that is refused: all that it prints
 pub refused-whole : (b : List ℕ) (n : ℕ) → openOf b ≡ refused n → refusedLine n ≡ sheetText b

@@ -1,16 +1,15 @@
 -- All of a sheet's text, and the parts in which it is made.
-use Prim.Native.Nat.{ℕ, zero, suc, _+_, _*_, _-_}
-use mathlib.Core.Bool.{Bool, cond, _&&_}
+use Prim.Native.Nat.{ℕ, _+_, _-_}
+use mathlib.Core.Bool.{cond, _&&_}
 use mathlib.Core.List.{List, [], _++_}
 use lib.Dec.{ltb, eqb}
 use lib.Ieee.{Float}
 use Rattle.real.specs.Reply.{Reply, refused, given}
-use Rattle.view.specs.declared.view_data.PlineViewData.{PlineViewData}
 use Rattle.job.specs.Header.{headerOf, headerOk, closed, fast}
 use Rattle.job.specs.Record.{recordOf}
 use Rattle.job.specs.Outline.{vertexIn}
 use Rattle.job.specs.Extent.{boxTo, lastSegment}
-use Rattle.job.specs.Sheet.{vertices, views, outlineOf, recordPlace, recordsOf, verticesOk, sheetOf}
+use Rattle.job.specs.Sheet.{views, outlineOf, recordPlace, recordsOf, verticesOk, sheetOf}
 use Rattle.job.specs.Text.{numbered}
 use Rattle.job.specs.Lines.{refusedLine, outlineLine, boundsLine, noBoxLine}
 use Rattle.job.specs.Views.{viewText, viewBuffer}

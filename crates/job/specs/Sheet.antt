@@ -12,7 +12,7 @@ use Rattle.view.specs.Plain.{tab}
 use Rattle.view.specs.Outline.{all}
 use Rattle.view.specs.Answers.{bufferAfter}
 use Rattle.view.specs.declared.view_data.PlineViewData.{PlineViewData}
-use Rattle.job.specs.Header.{headerOf, headerOk}
+use Rattle.job.specs.Header.{mostViews, headerOf, headerOk}
 use Rattle.job.specs.Record.{recordOk, recordOf}
 use Rattle.job.specs.Outline.{vertexIn, numbersIn}
 use Rattle.job.specs.declared.sheet.Opened.{Opened}
@@ -44,6 +44,10 @@ verticesOk b = all (λ k. vertexOk double (vertexIn b k)) (vertices b)
 -- "The whole sheet is checked for 11, then 12, then 1 over its vertices."
 unfoldable pub sheetOf : {A : Type 0} → List ℕ → Reply A → Reply A
 sheetOf b rest = check (headerOk b) badSheet (check (recordsOk b) badRecord (check (verticesOk b) badNumber rest))
+
+-- the bytes of the longest sheet
+abbrev pub sheetBytes : ℕ
+sheetBytes = 16 + 24 * mostVertices + 64 * mostViews
 
 -- the numbers of the largest outline
 abbrev pub outlineNumbers : ℕ

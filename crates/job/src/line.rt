@@ -99,7 +99,13 @@ fn put_mark(out: &mut [u8], at: usize, mark: Mark) -> usize
 }
 
 // The line of view k, with its verdict, its mark and its count.
-pub(crate) fn put_view_line(out: &mut [u8], k: usize, number: usize, mark: Mark, count: usize) -> usize
+pub(crate) fn put_view_line(
+    out: &mut [u8],
+    k: usize,
+    number: usize,
+    mark: Mark,
+    count: usize,
+) -> usize
     requires { ⌜ (k < 10000) × (number < 10000) × (count < 10000) × (25 ≤ length (now out)) ⌝ }
     ensures { λ r. ⌜ (Wrote (now (out .entry)) 0 (spec.viewLine k number (markCase mark) count) (now (out .exit)) r) × (r ≤ 25) ⌝ }
 {

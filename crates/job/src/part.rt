@@ -59,7 +59,14 @@ fn put_extent(bytes: &[u8], h: Header, out: &mut [u8]) -> usize
 }
 
 // The line and the rows of a cut view, which lists without refusal.
-fn put_cut(outline: &[f64], d: PlineViewData, k: usize, number: usize, list: &mut [f64], out: &mut [u8]) -> usize
+fn put_cut(
+    outline: &[f64],
+    d: PlineViewData,
+    k: usize,
+    number: usize,
+    list: &mut [f64],
+    out: &mut [u8],
+) -> usize
     requires { ⌜ (k < 10000) × (number < 10000) × (views.Lists (now outline) d (length (now list))) × (views.partBytes ≤ length (now out)) ⌝ }
     ensures { λ r. ⌜ (Wrote (now (out .entry)) 0 (views.markText (now (outline .entry)) d k number cut) (now (out .exit)) r) × (r ≤ views.partBytes) × (now (list .exit) ≡ written double (now (outline .entry)) d (now (list .entry))) ⌝ }
 {
@@ -91,7 +98,14 @@ fn put_marked(
 }
 
 // View k, with the record d.
-fn put_view(outline: &[f64], d: PlineViewData, k: usize, closed: bool, list: &mut [f64], out: &mut [u8]) -> usize
+fn put_view(
+    outline: &[f64],
+    d: PlineViewData,
+    k: usize,
+    closed: bool,
+    list: &mut [f64],
+    out: &mut [u8],
+) -> usize
     requires { ⌜ (k < 10000) × (length (now list) ≡ views.listNumbers) × (views.partBytes ≤ length (now out)) ⌝ }
     ensures { λ r. ⌜ (Wrote (now (out .entry)) 0 (views.viewText closed (now (outline .entry)) k d) (now (out .exit)) r) × (r ≤ views.partBytes) × (now (list .exit) ≡ views.viewBuffer closed (now (outline .entry)) d (now (list .entry))) ⌝ }
 {
@@ -103,7 +117,14 @@ fn put_view(outline: &[f64], d: PlineViewData, k: usize, closed: bool, list: &mu
 }
 
 // Part k of a sheet with the header h.
-fn put_part(bytes: &[u8], h: Header, outline: &[f64], k: usize, list: &mut [f64], out: &mut [u8]) -> usize
+fn put_part(
+    bytes: &[u8],
+    h: Header,
+    outline: &[f64],
+    k: usize,
+    list: &mut [f64],
+    out: &mut [u8],
+) -> usize
     requires { ⌜ (Headed (now bytes) h) × (length (now list) ≡ views.listNumbers) × (views.partBytes ≤ length (now out)) ⌝ }
     ensures { λ r. ⌜ (Wrote (now (out .entry)) 0 (spec.partText (now (bytes .entry)) (now (outline .entry)) k) (now (out .exit)) r) × (r ≤ views.partBytes) × (now (list .exit) ≡ spec.partBuffer (now (bytes .entry)) (now (outline .entry)) k (now (list .entry))) ⌝ }
 {

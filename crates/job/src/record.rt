@@ -1,8 +1,8 @@
 // A record: a view's 64 bytes of a sheet.
 use crate::bytes::float_at;
 use crate::bytes::le32;
-use crate::bytes::put32;
 use crate::bytes::put_pattern;
+use crate::bytes::put32;
 use plane::PlineVertex;
 use plane::Vector2;
 use real::BAD_RECORD;

@@ -9,6 +9,7 @@ pub const SHEET_BYTES: usize = 16 + 24 * MOST_VERTICES + 64 * MOST_VIEWS;
 
 // The numbers of the largest outline, and of the longest list of a view.
 pub const OUTLINE_NUMBERS: usize = 3 * MOST_VERTICES;
+
 pub const LIST_NUMBERS: usize = 3 * (MOST_VERTICES + 2);
 
 // No part of a sheet's text is longer: a line of at most 56 bytes for each vertex of the longest list, and the line before.

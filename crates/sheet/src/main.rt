@@ -17,7 +17,13 @@ fn write(text: &[u8], n: usize) -> bool
 }
 
 // Writes part k.
-fn write_part(bytes: &[u8], outline: &[f64], k: usize, list: &mut [f64; LIST_NUMBERS], text: &mut [u8; PART_BYTES]) -> bool {
+fn write_part(
+    bytes: &[u8],
+    outline: &[f64],
+    k: usize,
+    list: &mut [f64; LIST_NUMBERS],
+    text: &mut [u8; PART_BYTES],
+) -> bool {
     let n = job::sheet_part(bytes, outline, k, list, text);
     write(text, n)
 }

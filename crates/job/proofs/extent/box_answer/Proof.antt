@@ -1,5 +1,4 @@
 -- The flag picks the call.
-use Rattle.real.proofs.Pick.{picks}
 use Rattle.job.proofs.extent.box_answer.Statement.{statement}
 use Rattle.job.proofs.extent.box_answer.Tie as tie
 

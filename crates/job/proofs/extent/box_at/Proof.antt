@@ -1,6 +1,5 @@
 -- Both vertices lie in the bytes and are in range.
-use mathlib.Core.Path.{_≡_, sym, ap₂, subst, _∙_}
-use mathlib.Core.Bool.{true}
+use mathlib.Core.Path.{ap₂, _∙_}
 use Prim.Native.Nat.{_+_, _%_, _<_}
 use native.Mathlib.Nat.{mod-lt}
 use native.Mathlib.Omega.{arith}
@@ -8,7 +7,6 @@ use borrow.Author.Needs.{needs}
 use denote.Ref.{now}
 use Rattle.plane.specs.Grade.{double}
 use Rattle.plane.specs.Range.{segOk}
-use Rattle.plane.specs.declared.pline_vertex.PlineVertex.{PlineVertex}
 use Rattle.job.specs.Extent.{boxFor}
 use Rattle.job.proofs.Boxes.{segment-ok}
 use Rattle.job.proofs.extent.box_at.Statement.{statement}

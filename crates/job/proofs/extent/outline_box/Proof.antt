@@ -1,6 +1,6 @@
 -- After k turns the box is that of the segments 0 to k.
 use mathlib.Core.Path.{_≡_, ap, ap₂, sym, _∙_}
-use Prim.Native.Nat.{ℕ, suc, _-_, _≤_}
+use Prim.Native.Nat.{_-_, _≤_}
 use native.Mathlib.Numerals.{add-one}
 use native.Mathlib.Omega.{arith}
 use denote.Ref.{now}
@@ -23,9 +23,11 @@ loop-again : tie.Need-loop-again Inv-loop μ-loop
 unfolding boxTo
 loop-again c =
     let a = c .before .before .before .before .before .before .args in
-    let l = c .before .before .before .loop in
-    (omega arith, c .wider .ensures ∙ ap₂ wider (l .inv .1) (c .before .box-at2 .ensures ∙ ap (boxAt (a .fast) (vertexIn (now (a .bytes))) (a .n)) (add-one (l .k)))
-      ∙ ap (boxTo (a .fast) (vertexIn (now (a .bytes))) (a .n)) (sym (add-one (l .k))))
+    let l = c .before .before .before .loop in (
+      omega arith,
+      c .wider .ensures ∙ ap₂ wider (l .inv .1) (c .before .box-at2 .ensures ∙ ap (boxAt (a .fast) (vertexIn (now (a .bytes))) (a .n)) (add-one (l .k)))
+          ∙ ap (boxTo (a .fast) (vertexIn (now (a .bytes))) (a .n)) (sym (add-one (l .k))),
+    )
 
 returns : tie.Need-returns Inv-loop μ-loop
 returns c =

@@ -1,12 +1,12 @@
 -- The length is tested first, then the fields.
 use mathlib.Core.Path.{ap, _∙_}
 use lib.ListN.{length}
-use borrow.Author.Tests.{lt-leb, le-leb}
+use borrow.Author.Tests.{lt-leb}
 use borrow.Author.Needs.{needs}
 use denote.Ref.{now}
 use Rattle.job.specs.declared.header.Header.{Header}
 use Rattle.job.specs.Header.{headerFits, headerOk}
-use Rattle.job.proofs.Tests.{is, at-most, above}
+use Rattle.job.proofs.Tests.{at-most}
 use Rattle.job.proofs.header.header_is_sound.Statement.{statement}
 use Rattle.job.proofs.header.header_is_sound.Tie as tie
 
@@ -16,7 +16,7 @@ returns c = simp (lt-leb _ _ (c .if1 .taken))
 
 returns-2 : tie.Need-returns-2
 unfolding headerOk
-returns-2 c = 
+returns-2 c =
     let n = length (now (c .before .before .before .before .args .bytes)) in
     at-most (c .before .before .if1 .left) (c .header-fits .ensures ∙ ap (λ (h : Header). headerFits h n) (c .before .header-of .ensures))
 

@@ -1,7 +1,7 @@
 -- After i turns the first i numbers stand in the buffer.
 use mathlib.Core.Path.{_≡_, refl, sym, ap, _∙_}
 use mathlib.Core.List.{List, _++_}
-use Prim.Native.Nat.{ℕ, suc, _+_, _*_, _-_, _≤_, _<_}
+use Prim.Native.Nat.{ℕ, _+_, _*_, _-_, _≤_, _<_}
 use native.Mathlib.Omega.{arith}
 use native.Mathlib.Numerals.{add-one}
 use lib.ListN.{length, drop, set, length-set}
@@ -30,11 +30,13 @@ loop-again c =
     let l = c .before .before .loop in
     let a = c .before .before .before .before .before .args in
     let b = now (a .bytes) in
-    let h : l .i < length (now (a .out)) = omega arith in
-    (omega arith, simp length-set (l .inv .1),
+    let h : l .i < length (now (a .out)) = omega arith in (
+      omega arith,
+      simp length-set (l .inv .1),
       ap (λ (o : List Float). set o (l .i) (c .float-at .result)) (l .inv .2)
-      ∙ fill-next (λ j. floatAt b (16 + 8 * j)) (now (a .out)) (l .i) (c .float-at .result) h (c .float-at .ensures)
-      ∙ ap (λ (m : ℕ). tab (λ j. floatAt b (16 + 8 * j)) m ++ drop m (now (a .out))) (sym (add-one (l .i))))
+          ∙ fill-next (λ j. floatAt b (16 + 8 * j)) (now (a .out)) (l .i) (c .float-at .result) h (c .float-at .ensures)
+          ∙ ap (λ (m : ℕ). tab (λ j. floatAt b (16 + 8 * j)) m ++ drop m (now (a .out))) (sym (add-one (l .i))),
+    )
 
 returns : tie.Need-returns Inv-loop μ-loop
 returns c =

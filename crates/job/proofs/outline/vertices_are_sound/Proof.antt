@@ -31,9 +31,11 @@ fails c =
 
 loop-again : tie.Need-loop-again Inv-loop μ-loop
 loop-again c =
-    let l = c .before .before .before .before .loop in
-    (omega arith, all-more _ (l .k) (l .inv .1)
-      (passed (c .before .vertex-in-range .ensures ∙ ap (vertexOk double) (c .before .before .vertex-in .ensures)) (c .if1 .left)))
+    let l = c .before .before .before .before .loop in (
+      omega arith,
+      all-more _ (l .k) (l .inv .1)
+          (passed (c .before .vertex-in-range .ensures ∙ ap (vertexOk double) (c .before .before .vertex-in .ensures)) (c .if1 .left)),
+    )
 
 holds : tie.Need-returns-2 Inv-loop μ-loop
 holds c =

@@ -1,5 +1,4 @@
 -- The flag picks the segment.
-use mathlib.Core.Path.{refl}
 use native.Mathlib.Omega.{arith}
 use borrow.Author.Needs.{needs}
 use Rattle.job.proofs.part.last_segment.Statement.{statement}

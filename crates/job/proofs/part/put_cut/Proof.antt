@@ -1,5 +1,5 @@
 -- The view lists, so that the buffer holds the list whose rows follow the line.
-use mathlib.Core.Path.{_≡_, ap, _∙_}
+use mathlib.Core.Path.{ap, _∙_}
 use mathlib.Core.List.{List, _++_}
 use Prim.Native.Nat.{ℕ}
 use native.Mathlib.Omega.{arith}
@@ -18,7 +18,7 @@ use Rattle.job.proofs.part.put_cut.Tie as tie
 
 returns : tie.Need-returns
 unfolding markText
-returns c = 
+returns c =
     let r = c .before .before in
     let v = r .before .before .before .before .before in
     let m = v .before .before .before .before .before in
@@ -27,9 +27,11 @@ returns c =
     let s = now (a .outline) in
     let l = now (a .list) in
     let e = m .list .ensures .1 ∙ list-written s (a .d) l (o .pre .2) in
-    let t = viewLine (a .k) (a .number) cut (vertices (a .d)) in
-    (named (ap (λ (u : List Float). t ++ rows u (vertices (a .d))) e ∙ ap (λ (u : List ℕ). t ++ u) (list-rows s (a .d) l)) (next (v .put-view-line .ensures .0) (r .put-rows .ensures .0)),
-      omega (arith, v .put-view-line .ensures .1, r .put-rows .ensures .1, o .pre .2 .few), e)
+    let t = viewLine (a .k) (a .number) cut (vertices (a .d)) in (
+      named (ap (λ (u : List Float). t ++ rows u (vertices (a .d))) e ∙ ap (λ (u : List ℕ). t ++ u) (list-rows s (a .d) l)) (next (v .put-view-line .ensures .0) (r .put-rows .ensures .0)),
+      omega (arith, v .put-view-line .ensures .1, r .put-rows .ensures .1, o .pre .2 .few),
+      e,
+    )
 
 pub put-cut-spec : {M : Type 1} → statement M
 put-cut-spec =

@@ -1,14 +1,11 @@
 -- No text for vertices out of range, no box under two of them, and else the box of the segments.
-use mathlib.Core.Path.{_≡_, sym, ap, ap₂, _∙_}
+use mathlib.Core.Path.{ap, ap₂, _∙_}
 use mathlib.Core.Bool.{Bool}
 use Prim.Native.Nat.{ℕ}
 use native.Mathlib.Omega.{arith}
-use borrow.Author.Tests.{lt-ltb, le-ltb}
 use borrow.Author.Needs.{needs}
 use denote.Ref.{now}
 use Rattle.real.proofs.Pick.{passed, failed}
-use Rattle.seg.specs.declared.bounds.Bounds.{Bounds}
-use Rattle.job.specs.declared.header.Header.{Header}
 use Rattle.job.specs.Outline.{vertexIn}
 use Rattle.job.specs.Extent.{boxTo, lastSegment}
 use Rattle.job.specs.Lines.{boundsLine}
@@ -21,14 +18,14 @@ use Rattle.job.proofs.part.put_extent.Tie as tie
 
 returns : tie.Need-returns
 unfolding boxPart
-returns c = 
+returns c =
     let o = c .before .before .before .before in
     let e = failed (c .before .vertices-are-sound .ensures ∙ vertices-by _ (o .args .h) (o .pre .0)) (c .if1 .taken) in
     (named (simp e) (none _ 0), omega arith)
 
 returns-2 : tie.Need-returns-2
 unfolding boxPart
-returns-2 c = 
+returns-2 c =
     let p = c .before .before in
     let i = p .before .before .before in
     let o = c .before .before .before .before .before .before .before .before .before in
@@ -36,14 +33,14 @@ returns-2 c =
     (named (simp e (no-box _ (o .args .h) (o .pre .0) (omega arith))) (p .put-no-box .ensures .0), omega arith)
 
 outline-box-requires : tie.Need-outline-box-requires
-outline-box-requires c κs = 
+outline-box-requires c κs =
     let i = c .before .before .before .before .before in
     let o = c .before .before .before .before .before .before .before .before .before in
     (record { room = omega (arith, o .pre .0 .size); each = passed (i .before .vertices-are-sound .ensures) (i .if1 .left) }, c .before .before .last-segment .ensures .1)
 
 returns-3 : tie.Need-returns-3
 unfolding boxPart
-returns-3 c = 
+returns-3 c =
     let p = c .before .before in
     let i = c .before .before .before .before .before .before .before .before .before in
     let o = c .before .before .before .before .before .before .before .before .before .before .before .before .before in

@@ -1,13 +1,13 @@
 -- The number of the part picks the case of the definition.
-use mathlib.Core.Path.{_≡_, refl, sym, ap, ap₂, subst, _∙_}
+use mathlib.Core.Path.{_≡_, ap, ap₂, _∙_}
 use mathlib.Core.Bool.{Bool}
-use Prim.Native.Nat.{ℕ, _+_, _*_, _-_, _≤_, _<_}
+use Prim.Native.Nat.{_+_, _*_, _-_, _≤_, _<_}
 use native.Mathlib.Omega.{arith}
 use borrow.Author.Needs.{needs}
 use denote.Ref.{now}
 use Rattle.view.specs.declared.view_data.PlineViewData.{PlineViewData}
 use Rattle.job.specs.declared.header.Header.{Header}
-use Rattle.job.specs.Header.{headerOf, closed}
+use Rattle.job.specs.Header.{closed}
 use Rattle.job.specs.Record.{recordOf}
 use Rattle.job.specs.Sheet.{views}
 use Rattle.job.specs.Lines.{outlineLine}
@@ -18,7 +18,7 @@ use Rattle.job.proofs.part.put_part.Statement.{statement}
 use Rattle.job.proofs.part.put_part.Tie as tie
 
 returns : tie.Need-returns
-returns c = 
+returns c =
     let o = c .before .before .before .before .before .before in
     let a = o .args in
     let g = o .pre .0 in
@@ -27,7 +27,7 @@ returns c =
     (named (p .0) (none _ 0), omega arith, p .1)
 
 returns-2 : tie.Need-returns-2
-returns-2 c = 
+returns-2 c =
     let o = c .before .before .before .before .before .before .before .before .before .before .before .before in
     let a = o .args in
     let g = o .pre .0 in
@@ -36,14 +36,14 @@ returns-2 c =
     (named (ap (outlineLine (a .h .vertices) (a .h .views)) (c .before .before .before .before .before .is-closed .ensures) ∙ ap (λ (h : Header). outlineLine (h .vertices) (h .views) (closed h)) (g .is) ∙ p .0) (w .put-outline .ensures .0), omega arith, p .1)
 
 returns-3 : tie.Need-returns-3
-returns-3 c = 
+returns-3 c =
     let o = c .before .before .before .before .before .before .before .before .before .before .before .before .before in
     let a = o .args in
     let p = box-part (now (a .bytes)) (now (a .outline)) (now (a .list)) (a .k) (o .pre .0 .sound) (c .before .before .before .before .if3 .taken) in
     (named (p .0) (c .before .before .put-extent .ensures .0), omega arith, p .1)
 
 returns-4 : tie.Need-returns-4
-returns-4 c = 
+returns-4 c =
     let w = c .before .before .before .before in
     let o = c .before .before .before .before .before .before .before .before .before .before .before .before .before .before .before .before .before .before in
     let a = o .args in
@@ -54,9 +54,11 @@ returns-4 c =
     let two : 2 ≤ a .k = omega (arith, c .before .before .before .before .before .before .before .before .before .before .if2 .left, c .before .before .before .before .before .before .before .before .before .if3 .left) in
     let p = view-part b (now (a .outline)) (now (a .list)) (a .k) (g .sound) two k in
     let t = c .before .before .before .before .before .before .before .before .before .before .before .is-closed .ensures ∙ ap closed (g .is) in
-    let d = c .before .before .before .before .before .before .before .record-of .ensures ∙ ap (λ (h : Header). recordOf b (16 + 24 * h .vertices + 64 * (a .k - 2))) (g .is) in
-    (named (ap₂ (λ (t : Bool) (d : PlineViewData). viewText t (now (a .outline)) (a .k - 2) d) t d ∙ p .0) (w .put-view .ensures .0), w .put-view .ensures .1,
-      w .put-view .ensures .2 ∙ ap₂ (λ (t : Bool) (d : PlineViewData). viewBuffer t (now (a .outline)) d (now (a .list))) t d ∙ p .1)
+    let d = c .before .before .before .before .before .before .before .record-of .ensures ∙ ap (λ (h : Header). recordOf b (16 + 24 * h .vertices + 64 * (a .k - 2))) (g .is) in (
+      named (ap₂ (λ (t : Bool) (d : PlineViewData). viewText t (now (a .outline)) (a .k - 2) d) t d ∙ p .0) (w .put-view .ensures .0),
+      w .put-view .ensures .1,
+      w .put-view .ensures .2 ∙ ap₂ (λ (t : Bool) (d : PlineViewData). viewBuffer t (now (a .outline)) d (now (a .list))) t d ∙ p .1,
+    )
 
 pub put-part-spec : {M : Type 1} → statement M
 put-part-spec =

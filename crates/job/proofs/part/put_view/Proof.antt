@@ -1,5 +1,5 @@
 -- A refusal is printed, and a verdict by its promise.
-use mathlib.Core.Path.{_≡_, sym, ap, _∙_}
+use mathlib.Core.Path.{sym, ap, _∙_}
 use native.Mathlib.Omega.{arith}
 use borrow.Author.Needs.{needs}
 use denote.Ref.{now}
@@ -10,12 +10,12 @@ use Rattle.job.proofs.part.put_view.Statement.{statement}
 use Rattle.job.proofs.part.put_view.Tie as tie
 
 put-marked-requires : tie.Need-put-marked-requires
-put-marked-requires c κs = 
+put-marked-requires c κs =
     let o = c .before .before .before .before .before .before .before .before .before in
     (o .pre .0, omega arith, omega arith, sym (c .before .before .before .before .before .validate-for-source .ensures) ∙ ap validationReply (c .before .before .before .answer2 .given .1))
 
 returns : tie.Need-returns
-returns c = 
+returns c =
     let p = c .before .before in
     let o = c .before .before .before .before .before .before .before .before .before .before .before in
     let a = o .args in

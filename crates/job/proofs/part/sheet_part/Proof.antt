@@ -1,5 +1,5 @@
 -- Without a good header there is no part; else the part stands at the buffer's start.
-use mathlib.Core.Path.{_≡_, subst, _∙_}
+use mathlib.Core.Path.{subst}
 use mathlib.Core.List.{List}
 use Prim.Native.Nat.{ℕ}
 use native.Mathlib.Omega.{arith}
@@ -14,7 +14,7 @@ use Rattle.job.proofs.part.sheet_part.Statement.{statement}
 use Rattle.job.proofs.part.sheet_part.Tie as tie
 
 returns : tie.Need-returns
-returns c = 
+returns c =
     let a = c .before .before .before .before .args in
     let p = no-part (now (a .bytes)) (now (a .outline)) (now (a .list)) (a .k) (failed (c .before .header-is-sound .ensures) (c .if1 .taken)) in
     (subst (λ (t : List ℕ). Filled t (now (a .out)) (now (a .out)) 0) (p .0) (nothing (now (a .out))), p .1)
@@ -23,9 +23,9 @@ header-of-requires : tie.Need-header-of-requires
 header-of-requires c κs = long-header _ (passed (c .before .header-is-sound .ensures) (c .if1 .left))
 
 put-part-requires : tie.Need-put-part-requires
-put-part-requires c κs = 
+put-part-requires c κs =
     let i = c .before .before .before in
-    (headed _ _ (passed (i .before .header-is-sound .ensures) (i .if1 .left)) (c .before .before .header-of .ensures), search needs, search needs)
+    (headed _ _ (passed (i .before .header-is-sound .ensures) (i .if1 .left)) (c .before .before .header-of .ensures), omega arith, omega arith)
 
 returns-2 : tie.Need-returns-2
 returns-2 c = (filled (c .put-part .ensures .0) (omega (arith, c .put-part .ensures .1)), c .put-part .ensures .2)

@@ -8,7 +8,7 @@ use Rattle.job.proofs.record.put_record.Tie as tie
 
 returns : tie.Need-returns
 unfolding recordBytes
-returns c = 
+returns c =
     let c₄ = c .before .before in
     let c₃ = c₄ .before .before .before .before in
     let c₂ = c₃ .before .before .before .before in

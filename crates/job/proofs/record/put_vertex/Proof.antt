@@ -8,7 +8,7 @@ use Rattle.job.proofs.record.put_vertex.Tie as tie
 
 returns : tie.Need-returns
 unfolding vertexBytes
-returns c = 
+returns c =
     let c₂ = c .before .before in
     let c₁ = c₂ .before .before .before .before in
     let c₀ = c₁ .before .before .before .before in

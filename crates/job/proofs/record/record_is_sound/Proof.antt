@@ -1,6 +1,5 @@
 -- The two tests are the definition's.
 use mathlib.Core.Path.{sym}
-use native.Mathlib.Omega.{arith}
 use borrow.Author.Tests.{lt-leb, le-leb}
 use borrow.Author.Needs.{needs}
 use Rattle.job.specs.Record.{recordOk}

@@ -1,5 +1,5 @@
 -- The room is tested; then the 64 bytes stand at the start.
-use mathlib.Core.Path.{_≡_, sym, ap, _∙_}
+use mathlib.Core.Path.{ap, _∙_}
 use mathlib.Core.List.{_++_}
 use Prim.Native.Nat.{ℕ}
 use native.Mathlib.Omega.{arith}
@@ -19,7 +19,7 @@ returns c = let e = lt-leb _ _ (c .if1 .taken) in (simp e, simp e)
 
 returns-2 : tie.Need-returns-2
 unfolding recordTo recordBuffer
-returns-2 c = 
+returns-2 c =
     let a = c .before .before .before .before .before .before .args in
     let p = c .before .before .put-record .ensures in
     let e = le-leb _ _ (c .before .before .before .before .if1 .left) in

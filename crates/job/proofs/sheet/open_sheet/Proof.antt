@@ -15,7 +15,7 @@ header-of-requires : tie.Need-header-of-requires
 header-of-requires c κs = long-header _ (passed (c .before .header-is-sound .ensures) (c .if1 .left))
 
 open-after-requires : tie.Need-open-after-requires
-open-after-requires c κs = 
+open-after-requires c κs =
     let h = c .before .before in
     (headed _ _ (passed (h .before .header-is-sound .ensures) (h .if1 .left)) (c .before .header-of .ensures), search needs)
 

@@ -1,6 +1,6 @@
 -- A space, and the digits of the pattern.
 use mathlib.Core.Path.{ap}
-use mathlib.Core.List.{List, _++_}
+use mathlib.Core.List.{_++_}
 use Prim.Native.Nat.{ℕ}
 use native.Mathlib.Omega.{arith}
 use borrow.Author.Needs.{needs}

@@ -8,7 +8,7 @@ use Rattle.job.proofs.text.put_hex.Statement.{statement}
 use Rattle.job.proofs.text.put_hex.Tie as tie
 
 returns : tie.Need-returns
-returns c = 
+returns c =
     let c₃ = c .before .before in
     let c₂ = c₃ .before .before .before .before in
     let c₁ = c₂ .before .before .before .before in

@@ -3,13 +3,12 @@ use native.Mathlib.Omega.{arith}
 use borrow.Author.Needs.{needs}
 use Rattle.job.specs.Text.{row}
 use Rattle.job.proofs.Writing.{next}
-use Rattle.job.proofs.Writing.{writes}
 use Rattle.job.proofs.text.put_row.Statement.{statement}
 use Rattle.job.proofs.text.put_row.Tie as tie
 
 returns : tie.Need-returns
 unfolding row
-returns c = 
+returns c =
     let c₄ = c .before .before in
     let c₃ = c₄ .before .before .before .before in
     let c₂ = c₃ .before .before .before .before in

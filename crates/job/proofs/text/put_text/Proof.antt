@@ -1,7 +1,7 @@
 -- After i turns the first i bytes of the text stand in the buffer.
-use mathlib.Core.Path.{_≡_, refl, sym, ap, ap₂, subst, _∙_}
-use mathlib.Core.List.{List, [], _∷_, _++_}
-use Prim.Native.Nat.{ℕ, suc, _+_, _-_, _≤_, _<_}
+use mathlib.Core.Path.{_≡_, refl, sym, ap, ap₂, _∙_}
+use mathlib.Core.List.{List, [], _∷_}
+use Prim.Native.Nat.{ℕ, _+_, _-_, _≤_, _<_}
 use native.Mathlib.Omega.{arith}
 use native.Mathlib.Numerals.{add-one}
 use lib.ListN.{length, take, getD, set, length-set}
@@ -26,11 +26,13 @@ loop-again c = let l = c .before .before .loop in
     let t = now (a .text) in
     let i = l .i in
     let h : i < length t = omega arith in
-    let n : length (take i t) ≡ i = length-take-le i t (omega arith) in
-    (omega arith, simp length-set (l .inv .1),
+    let n : length (take i t) ≡ i = length-take-le i t (omega arith) in (
+      omega arith,
+      simp length-set (l .inv .1),
       ap₂ (λ (o : List ℕ) (k : ℕ). set o (a .at + k) (getD t i 0)) (l .inv .2) (sym n)
-      ∙ sets-append (now (a .out)) (a .at) (take i t) (getD t i 0 ∷ [])
-      ∙ ap (sets (now (a .out)) (a .at)) (sym (take-suc t i 0 h) ∙ ap (λ (k : ℕ). take k t) (sym (add-one i))))
+          ∙ sets-append (now (a .out)) (a .at) (take i t) (getD t i 0 ∷ [])
+          ∙ ap (sets (now (a .out)) (a .at)) (sym (take-suc t i 0 h) ∙ ap (λ (k : ℕ). take k t) (sym (add-one i))),
+    )
 
 returns : tie.Need-returns Inv-loop μ-loop
 returns c = let a = c .before .before .args in
