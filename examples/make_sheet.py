@@ -14,7 +14,7 @@ A line is one of these; '#' begins a comment, and numbers are separated by space
       end-bulge BULGE         the bulge of its last segment
       inverted                its direction is turned round
 
-It checks nothing else: the program `sheet` refuses what is wrong. The layout is in docs/01-scope.md, "Job sheet".
+It checks nothing else: the program `sheet` refuses what is wrong. The layout is document 01's, "Job sheet".
 """
 import struct
 import sys
