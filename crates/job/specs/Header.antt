@@ -1,0 +1,47 @@
+-- A sheet's header.
+use Prim.Native.Nat.{ℕ, _+_, _*_, _/_, _%_}
+use mathlib.Core.Bool.{Bool, _&&_}
+use mathlib.Core.List.{List}
+use lib.ListN.{length}
+use lib.Dec.{ltb, leb, eqb}
+use Rattle.plane.specs.Range.{mostVertices}
+use Rattle.job.specs.Bytes.{le16, le32}
+use Rattle.job.specs.declared.header.Header.{Header}
+
+-- "Sheet: at most 256 views."
+abbrev pub mostViews : ℕ
+mostViews = 256
+
+-- "Header, 16 bytes: version 1 (2 bytes), flags (2 ..), vertex count V (2), view count W (2), vertex offset (4) .., view offset (4)"
+abbrev pub headerOf : List ℕ → Header
+headerOf b =
+    record {
+      version = le16 b 0;
+      flags = le16 b 2;
+      vertices = le16 b 4;
+      views = le16 b 6;
+      «vertex_offset» = le32 b 8;
+      «view_offset» = le32 b 12;
+    }
+
+-- "flags (2; bit 0 closed, bit 1: the box line uses the fast box)"
+abbrev pub closed : Header → Bool
+closed h = eqb (h .flags % 2) 1
+
+abbrev pub fast : Header → Bool
+fast h = eqb (h .flags / 2 % 2) 1
+
+-- what refusal 11 asks of a header over a sheet of n bytes: "wrong length, version, count, offset or unknown flag"; "vertex offset (4) = 16, view
+-- offset (4) = 16 + 24V"; "Length is exactly 16 + 24V + 64W."
+unfoldable pub headerFits : Header → ℕ → Bool
+headerFits h n =
+    eqb (h .version) 1
+    && (ltb (h .flags) 4
+    && (leb (h .vertices) mostVertices
+    && (leb (h .views) mostViews
+    && (eqb (h .«vertex_offset») 16
+    && (eqb (h .«view_offset») (16 + 24 * h .vertices)
+    && eqb n (16 + 24 * h .vertices + 64 * h .views))))))
+
+unfoldable pub headerOk : List ℕ → Bool
+headerOk b = leb 16 (length b) && headerFits (headerOf b) (length b)
