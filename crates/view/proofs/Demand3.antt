@@ -1,22 +1,22 @@
 -- Demand 3. A record that passes the checks, with equal bulges where its offset is 0, is fine; the library's answers to a fine record are the view's, and each step leaves a fine one.
 use mathlib.Core.Path.{_≡_, refl, sym, ap, _∙_, subst}
 use mathlib.Core.Bool.{Bool, true, false, cond, _&&_}
-use mathlib.Core.List.{List, [], _∷_, _++_}
+use mathlib.Core.List.{List, [], _∷_}
 use Prim.Native.Nat.{ℕ, _+_, _*_, _-_, _<_, _≤_}
 use native.Mathlib.Decide.{decLt}
 use native.Mathlib.Omega.{arith}
-use lib.ListN.{length, drop}
-use lib.Dec.{T, ltb, leb}
+use lib.ListN.{length}
+use lib.Dec.{ltb}
 use lib.Ieee.{Float, nan, inf, fin, neg, toBits, ofBits}
 use lib.Ieee.Bits.{ofBits-toBits}
 use borrow.Author.Tests.{eq-eqb, ne-eqb, lt-ltb, le-leb, ltb-true}
 use Rattle.real.specs.Refusal.{badTrim}
-use Rattle.real.specs.Reply.{Reply, refused, given, check}
+use Rattle.real.specs.Reply.{given, check}
 use Rattle.plane.specs.Grade.{Grade}
 use Rattle.plane.specs.Range.{coordOk, bulgeOk, pointOk, vertexOk}
 use Rattle.plane.specs.declared.pline_vertex.PlineVertex.{PlineVertex}
-use Rattle.view.specs.Plain.{Vert, Step, turn, trim, flat, turnList, trimList, stepList, rowList}
-use Rattle.view.specs.View.{View, turnView, trimView}
+use Rattle.view.specs.Plain.{Vert, Step, turn, trim, stepList, rowList}
+use Rattle.view.specs.View.{turnView, trimView}
 use Rattle.view.specs.Outline.{countOf, vertexOf, vertOf, srcOf, numbersOk}
 use Rattle.view.specs.Record.{viewOf, dataOf, vertices, needed, evenBits, listed, recordOk}
 use Rattle.view.specs.Answers.{listOf, listBuffer, bufferAfter, written, reverseOf, trimOf}

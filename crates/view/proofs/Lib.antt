@@ -1,11 +1,12 @@
-mod Tab
-mod All
+-- Laws of plain lists and of views over any numbers, of the checks, and the theorems: Lists, Demand3, Replies, Shape, Table.
+pub mod Tab
+pub mod All
 pub mod Steps
 pub mod Lists
-mod Views
-mod Good
-mod Checks
+pub mod Views
+pub mod Good
 pub mod Listing
+pub mod Checks
 pub mod Demand3
 pub mod Replies
 pub mod Shape

@@ -6,7 +6,7 @@ use mathlib.Core.Bool.{Bool, true, false, cond, not}
 use mathlib.Core.List.{List}
 use lib.ListN.{length}
 use Rattle.view.specs.Plain.{Vert, tab, at, turnAt, turnList, trimList}
-use Rattle.view.specs.View.{View, forward, backward, vertexAt, listOf, turnView, part, trimView}
+use Rattle.view.specs.View.{View, forward, backward, vertexAt, viewList, turnView, part, trimView}
 use Rattle.view.proofs.Tab.{length-tab, getD-tab, tab-ext}
 use Rattle.view.proofs.Steps.{turn-turn, turn-tab, trim-tab, trim-turn-tab}
 use Rattle.view.proofs.Views.{at-past, back-past, back-turn, part-forward}
@@ -33,8 +33,8 @@ module _ {A : Type 0} (neg : A → A) (z : A) (src : ℕ → Vert A) (n : ℕ) (
       turned-by false = turned
 
       -- one reversal
-      pub list-turn : listOf neg z src n (turnView r) ≡ turnList neg z (listOf neg z src n r)
-      unfolding listOf vertexAt turnView forward backward
+      pub list-turn : viewList neg z src n (turnView r) ≡ turnList neg z (viewList neg z src n r)
+      unfolding viewList vertexAt turnView forward backward
       list-turn = turned-by (r .inverted)
 
 module _ {A : Type 0} (z : A) (src : ℕ → Vert A) (n : ℕ) (r : View A) (a b : ℕ) (below : a < b) (within : b < r .offset + 2) where
@@ -67,8 +67,8 @@ module _ {A : Type 0} (neg : A → A) (z : A) (src : ℕ → Vert A) (n : ℕ) (
       ∙ ap (trimList z i j) (sym (turned neg z src n r even))
 
   -- one trim
-  pub list-trim : listOf neg z src n (trimView z src n i j r) ≡ trimList z i j (listOf neg z src n r)
-  unfolding listOf vertexAt trimView part
+  pub list-trim : viewList neg z src n (trimView z src n i j r) ≡ trimList z i j (viewList neg z src n r)
+  unfolding viewList vertexAt trimView part
   list-trim = trimmed-by (r .inverted)
 
 -- "Reversing twice changes nothing", and "trim i to j after a reversal is trim n-1-j to n-1-i before it", as records
@@ -96,12 +96,12 @@ module _ {A : Type 0} (r : View A) where
 
 -- "A view has offset + 2 vertices", and its list ends in the zero
 module _ {A : Type 0} (neg : A → A) (z : A) (src : ℕ → Vert A) (n : ℕ) (r : View A) where
-  pub length-list : length (listOf neg z src n r) ≡ r .offset + 2
-  unfolding listOf
+  pub length-list : length (viewList neg z src n r) ≡ r .offset + 2
+  unfolding viewList
   length-list = length-tab _ _
 
-  pub ends-in-zero : at z (listOf neg z src n r) (r .offset + 1) .bulge ≡ z
-  unfolding listOf vertexAt
+  pub ends-in-zero : at z (viewList neg z src n r) (r .offset + 1) .bulge ≡ z
+  unfolding viewList vertexAt
   ends-in-zero = ap (λ (v : Vert A). v .bulge) (getD-tab _ (r .offset + 2) (r .offset + 1) _ (omega arith)) ∙ go (r .inverted)
     where
       go : (b : Bool) → cond b (backward neg z src n r (r .offset + 1)) (forward z src n r (r .offset + 1)) .bulge ≡ z

@@ -1,18 +1,11 @@
 -- No second answer fits: two answers of one reply are the same.
 use mathlib.Core.Path.{_≡_, ap}
-use mathlib.Core.List.{List}
-use Prim.Native.Nat.{ℕ, _+_}
+use Prim.Native.Nat.{ℕ}
 use native.Mathlib.Omega.{arith}
-use lib.ListN.{length}
-use lib.Ieee.{Float, neg}
-use Rattle.real.specs.Reply.{Reply, refused, given}
-use Rattle.plane.specs.Grade.{double}
 use Rattle.plane.specs.From.{vertexReply}
-use Rattle.plane.specs.declared.pline_vertex.PlineVertex.{PlineVertex}
 use Rattle.plane.specs.declared.pline_vertex.VertexAnswer.{VertexAnswer}
 use Rattle.plane.specs.declared.pline_vertex.VertexAnswer.the-variants as vertex
 use Rattle.view.specs.Answers.{viewReply, countReply}
-use Rattle.view.specs.declared.view_data.PlineViewData.{PlineViewData}
 use Rattle.view.specs.declared.view_data.ViewAnswer.{ViewAnswer}
 use Rattle.view.specs.declared.view_data.ViewAnswer.the-variants as view
 use Rattle.view.specs.declared.view_data.CountAnswer.{CountAnswer}

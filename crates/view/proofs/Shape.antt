@@ -13,7 +13,7 @@ use Rattle.real.specs.Reply.{given}
 use Rattle.plane.specs.Grade.{Grade}
 use Rattle.plane.specs.Range.{vertexOk}
 use Rattle.view.specs.Plain.{Vert, at}
-use Rattle.view.specs.View.{listOf as viewList}
+use Rattle.view.specs.View.{viewList}
 use Rattle.view.specs.Outline.{vertexOf, countOf, ofVert, srcOf, numbersOk}
 use Rattle.view.specs.Record.{viewOf, vertices, listed, pastOk, readsOk}
 use Rattle.view.specs.Needs.{Placed}

@@ -1,9 +1,12 @@
--- The outline Q and the record R of document 01's cases, and their numbers.
-use mathlib.Core.Bool.{Bool, true, false}
+-- Cases P7, P8 and P9 of document 01: the outline Q, the record R, and what the library lists. proofs/Table.antt proves them.
+use mathlib.Core.Bool.{true, false}
 use mathlib.Core.List.{List, [], _∷_}
 use lib.IntN.{pos, negsuc}
 use lib.Ieee.{Float, fin}
-use Rattle.view.specs.Plain.{Vert}
+use Rattle.plane.specs.Grade.{double}
+use Rattle.view.specs.Plain.{Vert, turn, trim}
+use Rattle.view.specs.Rows.{row}
+use Rattle.view.specs.Demand3.{Lists}
 use Rattle.view.specs.declared.view_data.PlineViewData.{PlineViewData}
 
 -- a number of the cases: its sign, and a significand times a power of two
@@ -46,3 +49,14 @@ R =
       «end_point» = record { x = n2; y = n4 };
       «inverted_direction» = false;
     }
+
+abbrev pub P7 : Type 0
+P7 = Lists double Q R (vert n1 n0 n0 ∷ vert n4 n0 half ∷ vert n4 n4 n0 ∷ vert n2 n4 n0 ∷ [])
+
+-- "reversed"
+abbrev pub P8 : Type 0
+P8 = Lists double Q (row double Q (turn ∷ []) R) (vert n2 n4 -0 ∷ vert n4 n4 -half ∷ vert n4 n0 -0 ∷ vert n1 n0 n0 ∷ [])
+
+-- "reversed, then trim 1 to 2"
+abbrev pub P9 : Type 0
+P9 = Lists double Q (row double Q (turn ∷ trim 1 2 ∷ []) R) (vert n4 n4 -half ∷ vert n4 n0 n0 ∷ [])

@@ -1,5 +1,4 @@
 -- The checks that the view calls share, as chains of refusals in document 01's order, each before the rest of an answer.
-use Prim.Native.Nat.{ℕ}
 use mathlib.Core.Bool.{_&&_}
 use mathlib.Core.List.{List}
 use lib.Dec.{ltb, leb}

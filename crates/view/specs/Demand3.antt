@@ -1,13 +1,13 @@
--- Demand 3 of document 00, sentence by sentence, of the library's own answers. proofs/Demand3.antt proves it.
+-- Demand 3 of document 00, sentence by sentence, of the library's own answers: at any grade, and so at `double`. proofs/Demand3.antt proves it.
 use mathlib.Core.Path.{_≡_}
-use mathlib.Core.Bool.{Bool, false, _&&_}
+use mathlib.Core.Bool.{false, _&&_}
 use mathlib.Core.List.{List, _++_}
 use Prim.Native.Nat.{ℕ, _*_, _-_, _<_, _≤_}
 use lib.ListN.{length, drop}
 use lib.Dec.{T, ltb}
 use lib.Ieee.{Float, neg, toBits, fits}
 use Rattle.real.specs.Refusal.{badTrim}
-use Rattle.real.specs.Reply.{Reply, refused, given}
+use Rattle.real.specs.Reply.{refused, given}
 use Rattle.plane.specs.Grade.{Grade}
 use Rattle.view.specs.Plain.{Vert, Step, turn, trim, flat, rowList}
 use Rattle.view.specs.Record.{listed}

@@ -8,7 +8,7 @@ use Rattle.plane.specs.Grade.{Grade}
 use Rattle.plane.specs.Range.{bulgeOk, pointOk, vertexOk}
 use Rattle.plane.specs.declared.pline_vertex.PlineVertex.{PlineVertex}
 use Rattle.view.specs.Plain.{Vert}
-use Rattle.view.specs.View.{View, wrapped, forward, backward, vertexAt, listOf, part}
+use Rattle.view.specs.View.{View, wrapped, forward, backward, vertexAt, viewList, part}
 use Rattle.view.specs.Outline.{vertexOf, countOf, vertOf, ofVert, srcOf}
 use Rattle.view.specs.declared.view_data.PlineViewData.{PlineViewData}
 
@@ -58,7 +58,7 @@ module _ (g : Grade) where
 
   -- the view's list
   abbrev pub listed : List Float → PlineViewData → List (Vert Float)
-  listed s d = listOf neg (g .zero) (srcOf s) (countOf s) (viewOf d)
+  listed s d = viewList neg (g .zero) (srcOf s) (countOf s) (viewOf d)
 
   abbrev pub partOf : List Float → PlineViewData → ℕ → ℕ → PlineViewData
   partOf s d a b = dataOf (part (g .zero) (srcOf s) (countOf s) a b (viewOf d))

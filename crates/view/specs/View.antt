@@ -62,5 +62,5 @@ module _ {A : Type 0} (neg : A → A) (z : A) (src : ℕ → Vert A) (n : ℕ) w
   vertexAt r k = cond (r .inverted) (backward r k) (forward z src n r k)
 
   -- "A view has offset + 2 vertices."
-  unfoldable pub listOf : View A → List (Vert A)
-  listOf r = tab (vertexAt r) (r .offset + 2)
+  unfoldable pub viewList : View A → List (Vert A)
+  viewList r = tab (vertexAt r) (r .offset + 2)

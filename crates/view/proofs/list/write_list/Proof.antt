@@ -12,7 +12,7 @@ use lib.Ieee.{Float, neg}
 use Rattle.plane.specs.Grade.{double}
 use Rattle.plane.specs.declared.pline_vertex.PlineVertex.{PlineVertex}
 use Rattle.view.specs.Plain.{Vert, tab, flat, numbers}
-use Rattle.view.specs.View.{vertexAt, listOf}
+use Rattle.view.specs.View.{vertexAt, viewList}
 use Rattle.view.specs.Outline.{countOf, vertOf, srcOf}
 use Rattle.view.specs.Record.{viewOf, vertices}
 use Rattle.view.specs.Answers.{written}
@@ -53,7 +53,7 @@ loop-again c =
     )
 
 returns : tie.Need-returns Inv-loop μ-loop
-unfolding written listOf
+unfolding written viewList
 returns c =
     let a = c .before .before .before .before .before .args in
     let e : c .before .loop .k ≡ vertices (a .d) = omega arith in
