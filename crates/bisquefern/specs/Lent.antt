@@ -21,9 +21,14 @@ codeOf (refused n) = n
 codeOf (given a) = 0
 
 -- "A refusal .. writes to no buffer."
-unfoldable pub heldBy : {A B : Type 0} → (A → B) → Reply A → B → B
-heldBy part (refused n) before = before
-heldBy part (given a) before = part a
+unfoldable pub heldBy : {C : Type 0} → Reply C → C → C
+heldBy (refused n) before = before
+heldBy (given after) before = after
+
+-- a call that replies, and then hands its answer on to be stored: the code that it returns, and what the lent buffer holds after it
+pub record Left {A C : Type 0} (reply : Reply A) (store : A → Reply C) (before : C) (code : ℕ) (after : C) : Type 0 where
+  pub returned : code ≡ codeOf (andThen reply store)
+  pub holds : after ≡ heldBy (andThen reply store) before
 
 -- ---- one buffer
 
@@ -41,10 +46,9 @@ lent values before = check (hasRoom values before) noRoom (given (inFront values
 abbrev pub itself : {B : Type 0} → B → B
 itself b = b
 
--- a call whose answer is a's values: its code, and the whole buffer after it
-pub record Answered {A B : Type 0} (values : A → List B) (reply : Reply A) (before : List B) (code : ℕ) (after : List B) : Type 0 where
-  pub returned : code ≡ codeOf (andThen reply (λ a. lent (values a) before))
-  pub holds : after ≡ heldBy itself (andThen reply (λ a. lent (values a) before)) before
+-- a call that writes its answer's values
+abbrev pub Answered : {A B : Type 0} → (A → List B) → Reply A → List B → ℕ → List B → Type 0
+Answered values reply before = Left reply (λ a. lent (values a) before) before
 
 -- one value
 abbrev pub one : {B : Type 0} → B → List B
@@ -71,6 +75,5 @@ lentBoth values before =
     check (hasRoom (values .words) (before .words) && hasRoom (values .numbers) (before .numbers)) noRoom
     (given (both (inFront (values .words) (before .words)) (inFront (values .numbers) (before .numbers))))
 
-pub record BothAnswered {A : Type 0} (values : A → Both) (reply : Reply A) (before : Both) (code : ℕ) (after : Both) : Type 0 where
-  pub returned : code ≡ codeOf (andThen reply (λ a. lentBoth (values a) before))
-  pub holds : after ≡ heldBy itself (andThen reply (λ a. lentBoth (values a) before)) before
+abbrev pub BothAnswered : {A : Type 0} → (A → Both) → Reply A → Both → ℕ → Both → Type 0
+BothAnswered values reply before = Left reply (λ a. lentBoth (values a) before) before

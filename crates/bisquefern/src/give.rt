@@ -1,7 +1,7 @@
 // What a call behind the face answered, in a lent buffer.
 use crate::write::write;
 use crate::write::write_byte;
-use crate::write::write_word;
+use crate::write::write_words;
 use job::BytesAnswer;
 use job::record_to_bytes;
 use plane::VertexAnswer;
@@ -107,7 +107,13 @@ pub(crate) fn give_flag(answer: BoolAnswer, out: &mut [u8]) -> u8
     ensures { λ r. ⌜ Answered flagByte (boolReply answer) (now (out .entry)) r (now (out .exit)) ⌝ }
 {
     match answer {
-        BoolAnswer::Given(b) => write_byte(if b { 1 } else { 0 }, out),
+        BoolAnswer::Given(b) => {
+            if b {
+                write_byte(1, out)
+            } else {
+                write_byte(0, out)
+            }
+        }
         BoolAnswer::Refused(n) => n,
     }
 }
@@ -128,7 +134,10 @@ pub(crate) fn give_count(answer: CountAnswer, out: &mut [u64]) -> u8
     ensures { λ r. ⌜ Answered one (countReply answer) (now (out .entry)) r (now (out .exit)) ⌝ }
 {
     match answer {
-        CountAnswer::Given(n) => write_word(n as u64, out),
+        CountAnswer::Given(n) => {
+            let values = [n as u64];
+            write_words(&values, out)
+        }
         CountAnswer::Refused(n) => n,
     }
 }

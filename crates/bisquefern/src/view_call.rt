@@ -4,7 +4,7 @@ use crate::give::give_mark;
 use crate::give::give_record;
 use crate::give::give_vertex;
 use crate::write::write;
-use crate::write::write_word;
+use crate::write::write_words;
 use job::RecordAnswer;
 use job::record_from_bytes;
 use plane::PlineVertex;
@@ -91,13 +91,23 @@ pub extern "C" fn bf_view_from_new_start(
 fn verdict_words(v: ViewDataValidation) -> [u64; 3]
     ensures { λ r. ⌜ r ≡ verdictWords (verdictOf v) ⌝ }
 {
-    let number = v.number() as u64;
     match v {
+        ViewDataValidation::SourceHasNoSegments => [1, 0, 0],
         ViewDataValidation::OffsetOutOfRange {
             offset,
             source_length,
-        } => [number, offset as u64, source_length as u64],
-        _ => [number, 0, 0],
+        } => [2, offset as u64, source_length as u64],
+        ViewDataValidation::UpdatedStartNotOnSegment { start_point: _ } => [3, 0, 0],
+        ViewDataValidation::EndPointNotOnSegment { end_point: _ } => [4, 0, 0],
+        ViewDataValidation::EndPointOnFinalOffsetVertex {
+            end_point: _,
+            final_offset_vertex: _,
+        } => [5, 0, 0],
+        ViewDataValidation::UpdatedBulgeDoesNotMatch {
+            updated_bulge: _,
+            expected: _,
+        } => [6, 0, 0],
+        ViewDataValidation::IsValid => [7, 0, 0],
     }
 }
 
@@ -105,6 +115,11 @@ fn verdict_numbers(v: ViewDataValidation) -> [f64; 5]
     ensures { λ r. ⌜ r ≡ verdictNumbers (verdictOf v) ⌝ }
 {
     match v {
+        ViewDataValidation::SourceHasNoSegments => [0.0, 0.0, 0.0, 0.0, 0.0],
+        ViewDataValidation::OffsetOutOfRange {
+            offset: _,
+            source_length: _,
+        } => [0.0, 0.0, 0.0, 0.0, 0.0],
         ViewDataValidation::UpdatedStartNotOnSegment { start_point: p } => {
             [p.x, p.y, 0.0, 0.0, 0.0]
         }
@@ -117,7 +132,7 @@ fn verdict_numbers(v: ViewDataValidation) -> [f64; 5]
             updated_bulge,
             expected,
         } => [updated_bulge, expected, 0.0, 0.0, 0.0],
-        _ => [0.0, 0.0, 0.0, 0.0, 0.0],
+        ViewDataValidation::IsValid => [0.0, 0.0, 0.0, 0.0, 0.0],
     }
 }
 
@@ -127,16 +142,13 @@ fn put_verdict(v: ViewDataValidation, whole: &mut [u64], out: &mut [f64]) -> u8
     if whole.len() < 3 {
         return NO_ROOM;
     }
-    let words = verdict_words(v);
     let numbers = verdict_numbers(v);
     let code = write(&numbers, out);
     if code != 0 {
         return code;
     }
-    whole[0] = words[0];
-    whole[1] = words[1];
-    whole[2] = words[2];
-    0
+    let words = verdict_words(v);
+    write_words(&words, whole)
 }
 
 fn give_verdict(answer: ValidationAnswer, whole: &mut [u64], out: &mut [f64]) -> u8
@@ -215,7 +227,10 @@ fn give_list(outline: &[f64], d: PlineViewData, out: &mut [f64], count: &mut [u6
     }
     let listed = d.list(outline, out);
     match listed {
-        CountAnswer::Given(n) => write_word(n as u64, count),
+        CountAnswer::Given(n) => {
+            let values = [n as u64];
+            write_words(&values, count)
+        }
         CountAnswer::Refused(n) => n,
     }
 }

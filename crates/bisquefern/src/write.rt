@@ -18,16 +18,22 @@ pub(crate) fn write(values: &[f64], out: &mut [f64]) -> u8
     0
 }
 
-pub(crate) fn write_word(value: u64, out: &mut [u64]) -> u8
-    ensures { λ r. ⌜ Answered one (given value) (now (out .entry)) r (now (out .exit)) ⌝ }
+// The same of whole numbers.
+pub(crate) fn write_words(values: &[u64], out: &mut [u64]) -> u8
+    ensures { λ r. ⌜ Answered itself (given (now (values .entry))) (now (out .entry)) r (now (out .exit)) ⌝ }
 {
-    if out.len() < 1 {
+    if out.len() < values.len() {
         return NO_ROOM;
     }
-    out[0] = value;
+    let mut k = 0;
+    while k < values.len() {
+        out[k] = values[k];
+        k += 1;
+    }
     0
 }
 
+// One byte.
 pub(crate) fn write_byte(value: u8, out: &mut [u8]) -> u8
     ensures { λ r. ⌜ Answered one (given value) (now (out .entry)) r (now (out .exit)) ⌝ }
 {

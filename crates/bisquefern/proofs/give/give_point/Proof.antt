@@ -1,0 +1,18 @@
+-- The values are written, or the refusal is handed on.
+use mathlib.Core.Path.{sym, ap, refl}
+use borrow.Author.Needs.{needs}
+use Rattle.seg.specs.Reply.{pointReply}
+use Rattle.bisquefern.specs.Lent.{itself}
+use Rattle.bisquefern.specs.Segment.{pointNumbers}
+use Rattle.bisquefern.proofs.Laws.{refuses, replies, stored-as}
+use Rattle.bisquefern.proofs.give.give_point.Statement.{statement}
+use Rattle.bisquefern.proofs.give.give_point.Tie as tie
+
+returns : tie.Need-returns
+returns c = replies (ap pointReply (sym (c .before .before .before .before .before .before .answer .given .1))) (stored-as itself pointNumbers refl (c .before .before .write .ensures))
+
+returns-2 : tie.Need-returns-2
+returns-2 c = refuses (ap pointReply (sym (c .before .answer2 .given .1)))
+
+pub give-point-spec : {M : Type 1} → statement M
+give-point-spec = tie.close (tie.spec (λ c. search needs) (λ c. search needs) (λ c κs. tt) (λ c. search needs) (λ c. search needs) returns returns-2)

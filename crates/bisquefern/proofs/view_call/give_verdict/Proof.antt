@@ -1,0 +1,16 @@
+-- The verdict is written, or the refusal is handed on.
+use mathlib.Core.Path.{sym, ap}
+use borrow.Author.Needs.{needs}
+use Rattle.view.specs.Validation.{validationReply}
+use Rattle.bisquefern.proofs.Laws.{refuses, replies}
+use Rattle.bisquefern.proofs.view_call.give_verdict.Statement.{statement}
+use Rattle.bisquefern.proofs.view_call.give_verdict.Tie as tie
+
+returns : tie.Need-returns
+returns c = replies (ap validationReply (sym (c .before .before .before .before .before .before .before .before .answer .given .1))) (c .before .before .before .before .put-verdict .ensures)
+
+returns-2 : tie.Need-returns-2
+returns-2 c = refuses (ap validationReply (sym (c .before .answer2 .given .1)))
+
+pub give-verdict-spec : {M : Type 1} → statement M
+give-verdict-spec = tie.close (tie.spec (λ c. search needs) (λ c κs. tt) (λ c. search needs) (λ c. search needs) (λ c. search needs) returns returns-2)
