@@ -19,8 +19,7 @@ one-reply f x (refused n) (refused m) p q = ap refused (p .1 ∙ sym (q .1))
 
 pub only : {x : Float} {before after after′ : List Float} {n n′ : ℕ} → RootAnswered x before n after → RootAnswered x before n′ after′ → (n ≡ n′) × (after ≡ after′)
 only {x} {before} p q =
-    let e = one-reply binary64 x (p .reply) (q .reply) (p .root) (q .root) in
-    (
+    let e = one-reply binary64 x (p .reply) (q .reply) (p .root) (q .root) in (
       p .answered .returned ∙ ap (λ (r : Reply Float). codeOf (andThen r (λ a. lent (one a) before))) e ∙ sym (q .answered .returned),
       p .answered .holds ∙ ap (λ (r : Reply Float). heldBy (andThen r (λ a. lent (one a) before)) before) e ∙ sym (q .answered .holds),
     )

@@ -203,12 +203,7 @@ pub extern "C" fn bf_view_count(outline: &[f64], bytes: &[u8], out: &mut [u64]) 
 
 // The vertex at a position. 11, 12, 3, 5, 4, 1, 8.
 #[no_mangle]
-pub extern "C" fn bf_view_get(
-    outline: &[f64],
-    bytes: &[u8],
-    position: u64,
-    out: &mut [f64],
-) -> u8
+pub extern "C" fn bf_view_get(outline: &[f64], bytes: &[u8], position: u64, out: &mut [f64]) -> u8
     ensures { λ r. ⌜ Answered vertexNumbers (ofRecord (now (bytes .entry)) (λ d. getVertexOf double (now (outline .entry)) d position)) (now (out .entry)) r (now (out .exit)) ⌝ }
 {
     let decoded = record_from_bytes(bytes);
@@ -266,13 +261,7 @@ pub extern "C" fn bf_view_reverse(outline: &[f64], bytes: &[u8], out: &mut [u8])
 
 // The record of positions i to j. 11, 12, 3, 1, 5, 4, 7, 9, 8.
 #[no_mangle]
-pub extern "C" fn bf_view_trim(
-    outline: &[f64],
-    bytes: &[u8],
-    i: u64,
-    j: u64,
-    out: &mut [u8],
-) -> u8
+pub extern "C" fn bf_view_trim(outline: &[f64], bytes: &[u8], i: u64, j: u64, out: &mut [u8]) -> u8
     ensures { λ r. ⌜ Answered recordBytes (ofRecord (now (bytes .entry)) (λ d. trimOf double (now (outline .entry)) d i j)) (now (out .entry)) r (now (out .exit)) ⌝ }
 {
     let decoded = record_from_bytes(bytes);

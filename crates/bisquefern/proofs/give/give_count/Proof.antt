@@ -8,10 +8,15 @@ use Rattle.bisquefern.proofs.give.give_count.Statement.{statement}
 use Rattle.bisquefern.proofs.give.give_count.Tie as tie
 
 returns : tie.Need-returns
-returns c = replies (ap countReply (sym (c .before .before .before .before .before .before .answer .given .1))) (stored-as itself one refl (c .before .before .write-words .ensures))
+returns c =
+    let at-write-words = c .before .before in
+    let at-answer = at-write-words .before .before .before .before in
+    replies (ap countReply (sym (at-answer .answer .given .1))) (stored-as itself one refl (at-write-words .write-words .ensures))
 
 returns-2 : tie.Need-returns-2
-returns-2 c = refuses (ap countReply (sym (c .before .answer2 .given .1)))
+returns-2 c =
+    let at-answer2 = c .before in
+    refuses (ap countReply (sym (at-answer2 .answer2 .given .1)))
 
 pub give-count-spec : {M : Type 1} → statement M
 give-count-spec = tie.close (tie.spec (λ c. search needs) (λ c. search needs) (λ c κs. tt) (λ c. search needs) (λ c. search needs) returns returns-2)

@@ -8,10 +8,15 @@ use Rattle.bisquefern.proofs.give.give_root.Statement.{statement}
 use Rattle.bisquefern.proofs.give.give_root.Tie as tie
 
 returns : tie.Need-returns
-returns c = replies (ap sqrtReply (sym (c .before .before .before .before .before .before .answer .given .1))) (stored-as itself one refl (c .before .before .write .ensures))
+returns c =
+    let at-write = c .before .before in
+    let at-answer = at-write .before .before .before .before in
+    replies (ap sqrtReply (sym (at-answer .answer .given .1))) (stored-as itself one refl (at-write .write .ensures))
 
 returns-2 : tie.Need-returns-2
-returns-2 c = refuses (ap sqrtReply (sym (c .before .answer2 .given .1)))
+returns-2 c =
+    let at-answer2 = c .before in
+    refuses (ap sqrtReply (sym (at-answer2 .answer2 .given .1)))
 
 pub give-root-spec : {M : Type 1} → statement M
 give-root-spec = tie.close (tie.spec (λ c. search needs) (λ c. search needs) (λ c κs. tt) (λ c. search needs) (λ c. search needs) returns returns-2)

@@ -11,7 +11,9 @@ returns c = simp (ne-eqb _ _ (c .if1 .taken))
 
 returns-2 : tie.Need-returns-2
 unfolding segmentFrom
-returns-2 c = simp (eq-eqb _ _ (c .before .before .before .before .before .before .if1 .left))
+returns-2 c =
+    let at-if1 = c .before .before .before .before .before .before in
+    simp (eq-eqb _ _ (at-if1 .if1 .left))
 
 pub segment-from-slice-spec : {M : Type 1} → statement M
 segment-from-slice-spec = tie.close (tie.spec returns (λ c. search needs) (λ c. search needs) (λ c. search needs) (λ c. search needs) (λ c. search needs) (λ c. search needs) returns-2)

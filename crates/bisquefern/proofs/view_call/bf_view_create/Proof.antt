@@ -13,7 +13,11 @@ returns c = refuses (simp (ne-eqb _ _ (c .if1 .taken)))
 
 returns-2 : tie.Need-returns-2
 unfolding ofVertex
-returns-2 c = replies (c .before .before .before .before .create .ensures ∙ simp (eq-eqb _ _ (c .before .before .before .before .before .before .before .before .if1 .left))) (c .before .before .give-record .ensures)
+returns-2 c =
+    let at-give-record = c .before .before in
+    let at-create = at-give-record .before .before in
+    let at-if1 = at-create .before .before .before .before in
+    replies (at-create .create .ensures ∙ simp (eq-eqb _ _ (at-if1 .if1 .left))) (at-give-record .give-record .ensures)
 
 pub bf-view-create-spec : {M : Type 1} → statement M
 bf-view-create-spec = tie.close (tie.spec returns (λ c. search needs) (λ c. search needs) (λ c. search needs) (λ c κs. tt) (λ c κs. tt) (λ c. search needs) returns-2)

@@ -7,10 +7,15 @@ use Rattle.bisquefern.proofs.view_call.give_verdict.Statement.{statemen
 use Rattle.bisquefern.proofs.view_call.give_verdict.Tie as tie
 
 returns : tie.Need-returns
-returns c = replies (ap validationReply (sym (c .before .before .before .before .before .before .before .before .answer .given .1))) (c .before .before .before .before .put-verdict .ensures)
+returns c =
+    let at-put-verdict = c .before .before .before .before in
+    let at-answer = at-put-verdict .before .before .before .before in
+    replies (ap validationReply (sym (at-answer .answer .given .1))) (at-put-verdict .put-verdict .ensures)
 
 returns-2 : tie.Need-returns-2
-returns-2 c = refuses (ap validationReply (sym (c .before .answer2 .given .1)))
+returns-2 c =
+    let at-answer2 = c .before in
+    refuses (ap validationReply (sym (at-answer2 .answer2 .given .1)))
 
 pub give-verdict-spec : {M : Type 1} → statement M
 give-verdict-spec = tie.close (tie.spec (λ c. search needs) (λ c κs. tt) (λ c. search needs) (λ c. search needs) (λ c. search needs) returns returns-2)

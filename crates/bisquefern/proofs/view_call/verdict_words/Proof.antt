@@ -11,7 +11,9 @@ returns : tie.Need-returns
 returns c = ap (λ (v : ViewDataValidation). verdictWords (verdictOf v)) (sym (c .enum-told .given .1))
 
 returns-2 : tie.Need-returns-2
-returns-2 c = ap (λ (v : ViewDataValidation). verdictWords (verdictOf v)) (sym (c .before .v .given .1))
+returns-2 c =
+    let at-v = c .before in
+    ap (λ (v : ViewDataValidation). verdictWords (verdictOf v)) (sym (at-v .v .given .1))
 
 returns-3 : tie.Need-returns-3
 returns-3 c = ap (λ (v : ViewDataValidation). verdictWords (verdictOf v)) (sym (c .enum-told2 .given .1))
