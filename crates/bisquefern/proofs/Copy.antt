@@ -1,10 +1,9 @@
 -- A loop that copies values to the front of a list, one a turn.
-use mathlib.Core.Path.{_≡_, refl, sym, ap, _∙_}
+use mathlib.Core.Path.{_≡_, sym, ap, _∙_}
 use mathlib.Core.List.{List, _++_}
-use Prim.Native.Nat.{ℕ, suc, _+_, _≤_, _<_}
+use Prim.Native.Nat.{ℕ, suc, _+_, _<_}
 use native.Mathlib.Omega.{arith}
 use native.Mathlib.Numerals.{add-one}
-use native.Mathlib.Nat.{zero-add}
 use lib.ListN.{length, set, getD, take, drop}
 use lib.Seq.{take-length, paste-suc}
 use Rattle.bisquefern.specs.Lent.{inFront}

@@ -19,7 +19,7 @@ use Rattle.view.specs.Answers.{vertexCountOf, listOf, listBuffer, bufferAfter, 
 use Rattle.view.specs.declared.view_data.PlineViewData.{PlineViewData}
 use Rattle.view.proofs.Tab.{length-flat}
 use Rattle.view.proofs.Shape.{list-count}
-use Rattle.bisquefern.specs.Lent.{andThen, codeOf, heldBy, lent, lentBoth, itself, one, Both, both, Answered, BothAnswered}
+use Rattle.bisquefern.specs.Lent.{andThen, codeOf, heldBy, lent, lentBoth, itself, one, both, Answered, BothAnswered}
 use Rattle.bisquefern.specs.View.{listReply}
 use Rattle.bisquefern.proofs.Laws.{refuses, replies, short, stores, second-short, both-stored}
 

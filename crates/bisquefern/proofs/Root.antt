@@ -1,12 +1,12 @@
 -- No second code and no second buffer fit the promise of square root.
-use mathlib.Core.Path.{_≡_, refl, sym, ap, _∙_}
+use mathlib.Core.Path.{_≡_, sym, ap, _∙_}
 use mathlib.Core.Bool.{true, false}
 use mathlib.Core.List.{List}
 use Prim.Native.Nat.{ℕ}
 use native.Mathlib.Omega.{arith}
 use lib.Ieee.{Float, Format, binary64}
 use Rattle.real.specs.Reply.{Reply, refused, given}
-use Rattle.real.specs.Sqrt.{IsSqrt, rootable}
+use Rattle.real.specs.Sqrt.{IsSqrt}
 use Rattle.real.proofs.Nearest.{only-root}
 use Rattle.bisquefern.specs.Lent.{andThen, codeOf, heldBy, lent, one, RootAnswered}
 

@@ -6,10 +6,9 @@ use lib.Dec.{eqb}
 use lib.ListN.{length, getD}
 use lib.Ieee.{Float, nan}
 use Rattle.real.specs.Refusal.{badOutline}
-use Rattle.real.specs.Reply.{Reply, refused, given, check}
+use Rattle.real.specs.Reply.{Reply, given, check}
 use Rattle.plane.specs.Grade.{double}
 use Rattle.plane.specs.Vertex.{vertexAt}
-use Rattle.plane.specs.declared.vector2.Vector2.{Vector2}
 use Rattle.plane.specs.declared.pline_vertex.PlineVertex.{PlineVertex}
 use Rattle.view.specs.Plain.{flat}
 use Rattle.view.specs.Record.{listed}

@@ -3,6 +3,7 @@
 mod give;
 mod number;
 mod segment;
+mod verdict;
 mod view_call;
 mod write;
 

@@ -19,15 +19,15 @@ pub(crate) fn write(values: &[f64], out: &mut [f64]) -> u8
 }
 
 // The same of whole numbers.
-pub(crate) fn write_words(values: &[u64], out: &mut [u64]) -> u8
-    ensures { λ r. ⌜ Answered itself (given (now (values .entry))) (now (out .entry)) r (now (out .exit)) ⌝ }
+pub(crate) fn write_words(words: &[u64], out: &mut [u64]) -> u8
+    ensures { λ r. ⌜ Answered itself (given (now (words .entry))) (now (out .entry)) r (now (out .exit)) ⌝ }
 {
-    if out.len() < values.len() {
+    if out.len() < words.len() {
         return NO_ROOM;
     }
     let mut k = 0;
-    while k < values.len() {
-        out[k] = values[k];
+    while k < words.len() {
+        out[k] = words[k];
         k += 1;
     }
     0

@@ -1,4 +1,4 @@
--- The loop's invariant: the first k values stand in the buffer, and then what it held.
+-- The loop's invariant: the first k words stand in the buffer, and then what it held.
 use mathlib.Core.Path.{_≡_, refl, ap, _∙_}
 use Prim.Native.Nat.{_-_, _≤_}
 use native.Mathlib.Omega.{arith}
@@ -12,10 +12,10 @@ use Rattle.bisquefern.proofs.write.write_words.Statement.{statement}
 use Rattle.bisquefern.proofs.write.write_words.Tie as tie
 
 abbrev Inv-loop : tie.InvT-loop
-Inv-loop values out₀ k₀ out k = (k ≤ length values) × (length out ≡ length out₀) × (out ≡ copied values out₀ k)
+Inv-loop words out₀ k₀ out k = (k ≤ length words) × (length out ≡ length out₀) × (out ≡ copied words out₀ k)
 
 abbrev μ-loop : tie.MeasureT-loop
-μ-loop values out₀ k₀ out k = length values - k
+μ-loop words out₀ k₀ out k = length words - k
 
 returns : tie.Need-returns Inv-loop μ-loop
 returns c = short itself (c .if1 .taken)
@@ -27,14 +27,14 @@ loop-again c =
     let k = at .loop .k in (
       omega arith,
       simp length-set (at .loop .inv .1),
-      ap (λ l. set l k (getD (now (a .values)) k 0)) (at .loop .inv .2) ∙ copied-more (now (a .values)) (now (a .out)) k 0 (omega arith) (omega arith),
+      ap (λ l. set l k (getD (now (a .words)) k 0)) (at .loop .inv .2) ∙ copied-more (now (a .words)) (now (a .out)) k 0 (omega arith) (omega arith),
     )
 
 returns-2 : tie.Need-returns-2 Inv-loop μ-loop
 returns-2 c =
     let a = c .before .before .before .args in
-    let e : c .before .loop .k ≡ length (now (a .values)) = omega arith in
-    stores itself (omega arith) (c .before .loop .inv .2 ∙ ap (copied (now (a .values)) (now (a .out))) e ∙ copied-all (now (a .values)) (now (a .out)))
+    let e : c .before .loop .k ≡ length (now (a .words)) = omega arith in
+    stores itself (omega arith) (c .before .loop .inv .2 ∙ ap (copied (now (a .words)) (now (a .out))) e ∙ copied-all (now (a .words)) (now (a .out)))
 
 pub write-words-spec : {M : Type 1} → statement M
 write-words-spec =

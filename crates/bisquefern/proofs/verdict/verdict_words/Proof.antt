@@ -4,8 +4,8 @@ use borrow.Author.Needs.{needs}
 use Rattle.view.specs.Validation.{verdictOf}
 use Rattle.view.specs.declared.validation.ViewDataValidation.{ViewDataValidation}
 use Rattle.bisquefern.specs.View.{verdictWords}
-use Rattle.bisquefern.proofs.view_call.verdict_words.Statement.{statement}
-use Rattle.bisquefern.proofs.view_call.verdict_words.Tie as tie
+use Rattle.bisquefern.proofs.verdict.verdict_words.Statement.{statement}
+use Rattle.bisquefern.proofs.verdict.verdict_words.Tie as tie
 
 returns : tie.Need-returns
 returns c = ap (λ (v : ViewDataValidation). verdictWords (verdictOf v)) (sym (c .enum-told .given .1))

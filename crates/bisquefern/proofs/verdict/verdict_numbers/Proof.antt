@@ -4,8 +4,8 @@ use borrow.Author.Needs.{needs}
 use Rattle.view.specs.Validation.{verdictOf}
 use Rattle.view.specs.declared.validation.ViewDataValidation.{ViewDataValidation}
 use Rattle.bisquefern.specs.View.{verdictNumbers}
-use Rattle.bisquefern.proofs.view_call.verdict_numbers.Statement.{statement}
-use Rattle.bisquefern.proofs.view_call.verdict_numbers.Tie as tie
+use Rattle.bisquefern.proofs.verdict.verdict_numbers.Statement.{statement}
+use Rattle.bisquefern.proofs.verdict.verdict_numbers.Tie as tie
 
 returns : tie.Need-returns
 returns c = ap (λ (v : ViewDataValidation). verdictNumbers (verdictOf v)) (sym (c .enum-told .given .1))

@@ -3,8 +3,8 @@ use borrow.Author.Needs.{needs}
 use Rattle.bisquefern.specs.Lent.{itself}
 use Rattle.bisquefern.specs.View.{verdictValues}
 use Rattle.bisquefern.proofs.Laws.{stored-as, first-short, second-short, both-stored}
-use Rattle.bisquefern.proofs.view_call.put_verdict.Statement.{statement}
-use Rattle.bisquefern.proofs.view_call.put_verdict.Tie as tie
+use Rattle.bisquefern.proofs.verdict.put_verdict.Statement.{statement}
+use Rattle.bisquefern.proofs.verdict.put_verdict.Tie as tie
 
 returns : tie.Need-returns
 returns c = first-short verdictValues (c .if1 .taken)

@@ -3,8 +3,8 @@ use mathlib.Core.Path.{sym, ap}
 use borrow.Author.Needs.{needs}
 use Rattle.view.specs.Validation.{validationReply}
 use Rattle.bisquefern.proofs.Laws.{refuses, replies}
-use Rattle.bisquefern.proofs.view_call.give_verdict.Statement.{statement}
-use Rattle.bisquefern.proofs.view_call.give_verdict.Tie as tie
+use Rattle.bisquefern.proofs.verdict.give_verdict.Statement.{statement}
+use Rattle.bisquefern.proofs.verdict.give_verdict.Tie as tie
 
 returns : tie.Need-returns
 returns c =
