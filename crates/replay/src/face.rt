@@ -1,0 +1,160 @@
+// The calls, with the arguments that follow their first slice.
+use crate::read::bytes;
+use crate::read::low_byte;
+use crate::read::number;
+use crate::read::numbers;
+use crate::read::word;
+use bisquefern::bf_seg_arc_radius_and_center;
+use bisquefern::bf_seg_bounding_box;
+use bisquefern::bf_seg_closest_point;
+use bisquefern::bf_seg_distance_is_greater_than;
+use bisquefern::bf_seg_fast_approx_bounding_box;
+use bisquefern::bf_seg_midpoint;
+use bisquefern::bf_seg_split_at_point;
+use bisquefern::bf_seg_tangent_vector;
+use bisquefern::bf_sqrt;
+use bisquefern::bf_vertex;
+use bisquefern::bf_view_count;
+use bisquefern::bf_view_create;
+use bisquefern::bf_view_from_new_start;
+use bisquefern::bf_view_get;
+use bisquefern::bf_view_list;
+use bisquefern::bf_view_mark;
+use bisquefern::bf_view_reverse;
+use bisquefern::bf_view_trim;
+use bisquefern::bf_view_validate;
+use std::num::wrapping_add_u64;
+
+// What a line says of a case that does not fit.
+const UNFIT: u8 = 255;
+
+// Calls 1 to 10.
+pub fn on_segment(
+    call: u64,
+    words: &[u64],
+    at: u64,
+    s: &[f64],
+    out: &mut [f64],
+    byte: &mut [u8],
+) -> u8 {
+    let x = number(words, at);
+    let y = number(words, wrapping_add_u64(at, 1));
+    let a = number(words, wrapping_add_u64(at, 2));
+    let b = number(words, wrapping_add_u64(at, 3));
+    match call {
+        1 => bf_sqrt(x, out),
+        2 => bf_vertex(s, out),
+        3 => bf_seg_arc_radius_and_center(s, out),
+        4 => bf_seg_split_at_point(s, x, y, a, out),
+        5 => bf_seg_tangent_vector(s, x, y, out),
+        6 => bf_seg_closest_point(s, x, y, a, out),
+        7 => bf_seg_distance_is_greater_than(s, x, y, a, b, byte),
+        8 => bf_seg_fast_approx_bounding_box(s, out),
+        9 => bf_seg_bounding_box(s, out),
+        _ => bf_seg_midpoint(s, out),
+    }
+}
+
+fn create(words: &[u64], at: u64, s: &[f64], vertex: &[f64], out: &mut [u8]) -> u8 {
+    let start = word(words, at);
+    let x = number(words, wrapping_add_u64(at, 1));
+    let y = number(words, wrapping_add_u64(at, 2));
+    let intersect = word(words, wrapping_add_u64(at, 3));
+    let past = wrapping_add_u64(at, wrapping_add_u64(5, vertex.len() as u64));
+    let traverse = word(words, past);
+    let tolerance = number(words, wrapping_add_u64(past, 1));
+    bf_view_create(s, start, x, y, intersect, vertex, traverse, tolerance, out)
+}
+
+fn new_start(words: &[u64], at: u64, s: &[f64], out: &mut [u8]) -> u8 {
+    let closed = low_byte(word(words, at));
+    let x = number(words, wrapping_add_u64(at, 1));
+    let y = number(words, wrapping_add_u64(at, 2));
+    let start = word(words, wrapping_add_u64(at, 3));
+    let tolerance = number(words, wrapping_add_u64(at, 4));
+    bf_view_from_new_start(s, closed, x, y, start, tolerance, out)
+}
+
+fn create_of(words: &[u64], at: u64, s: &[f64], vertex: &[f64], n: usize, out: &mut [u8]) -> u8 {
+    if n > vertex.len() {
+        return UNFIT;
+    }
+    create(words, at, s, &vertex[..n], out)
+}
+
+// Calls 11 and 12.
+pub fn on_outline(call: u64, words: &[u64], at: u64, s: &[f64], out: &mut [u8]) -> u8 {
+    if call == 12 {
+        return new_start(words, at, s, out);
+    }
+    let mut vertex = [0.0; 16];
+    numbers(words, wrapping_add_u64(at, 5), &mut vertex);
+    let n = word(words, wrapping_add_u64(at, 4)) as usize;
+    create_of(words, at, s, &vertex, n, out)
+}
+
+// Calls 13 to 19, past the record: a closed flag before it, or numbers at `past` after it.
+fn with_record(
+    call: u64,
+    words: &[u64],
+    past: u64,
+    closed: u8,
+    s: &[f64],
+    record: &[u8],
+    out: &mut [f64],
+    whole: &mut [u64],
+    byte: &mut [u8],
+) -> u8 {
+    let i = word(words, past);
+    let j = word(words, wrapping_add_u64(past, 1));
+    match call {
+        13 => bf_view_validate(s, record, whole, out),
+        14 => bf_view_mark(s, closed, record, byte),
+        15 => bf_view_count(s, record, whole),
+        16 => bf_view_get(s, record, i, out),
+        17 => bf_view_list(s, record, out, whole),
+        18 => bf_view_reverse(s, record, byte),
+        _ => bf_view_trim(s, record, i, j, byte),
+    }
+}
+
+// Calls 13 to 19, with the first n bytes of the record's space.
+fn record_of(
+    call: u64,
+    words: &[u64],
+    from: u64,
+    closed: u8,
+    s: &[f64],
+    record: &[u8],
+    out: &mut [f64],
+    whole: &mut [u64],
+    byte: &mut [u8],
+) -> u8 {
+    let n = word(words, from) as usize;
+    if n > record.len() {
+        return UNFIT;
+    }
+    let past = wrapping_add_u64(from, wrapping_add_u64(1, wrapping_add_u64(n as u64, 7) / 8));
+    with_record(call, words, past, closed, s, &record[..n], out, whole, byte)
+}
+
+// Calls 13 to 19.
+pub fn on_record(
+    call: u64,
+    words: &[u64],
+    at: u64,
+    s: &[f64],
+    out: &mut [f64],
+    whole: &mut [u64],
+    byte: &mut [u8],
+) -> u8 {
+    let closed = low_byte(word(words, at));
+    let from = if call == 14 {
+        wrapping_add_u64(at, 1)
+    } else {
+        at
+    };
+    let mut record = [0u8; 256];
+    bytes(words, wrapping_add_u64(from, 1), &mut record);
+    record_of(call, words, from, closed, s, &record, out, whole, byte)
+}
