@@ -1,3 +1,4 @@
+-- The two end tests are the definition's, with chord and projection by the promises of the vector calls.
 use Rattle.plane.proofs.math.line_seg_closest_point.Statement.{statement}
 use Rattle.plane.proofs.math.line_seg_closest_point.Tie as tie
 

@@ -1,3 +1,4 @@
+-- The four comparisons are the definition's, with both perpendicular dots by their promises.
 use Rattle.plane.proofs.math.point_within_arc_sweep.Statement.{statement}
 use Rattle.plane.proofs.math.point_within_arc_sweep.Tie as tie
 
