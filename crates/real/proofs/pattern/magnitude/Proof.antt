@@ -1,27 +1,26 @@
--- `ofBits` of a pattern with the sign's bit cleared is the magnitude.
-use mathlib.Core.Path.{sym, ap, _∙_, subst}
+-- `ofBits` of a pattern with the sign's bit cleared is the magnitude; a NaN has none but itself.
+use mathlib.Core.Path.{sym, subst}
 use lib.Dec.{T}
-use lib.Ieee.{binary64, ofBits}
-use lib.Ieee.Bits.{ofBits-toBits}
-use Rattle.real.specs.Root.{absOf}
-use Rattle.real.proofs.Values.{abs-bits}
-use borrow.Author.Needs.{needs}
+use lib.Ieee.{binary64, fits}
+use Rattle.real.proofs.Values.{no-nan, abs-nan, abs-pattern, abs-no-nan}
 use Rattle.real.proofs.pattern.magnitude.Statement.{statement}
 use Rattle.real.proofs.pattern.magnitude.Tie as tie
 
-bits-requires : tie.Need-bits-requires
-bits-requires c κs = search needs
+-- what owning an `f64` tells: the format holds it
+held : (c : tie.Start) → T (fits binary64 (c .args .x))
+held c = subst T (sym (c .good .0 .1)) tt
 
-from-bits-requires : tie.Need-from-bits-requires
-from-bits-requires c κs = search needs
+float-to-bits-result : tie.Need-float-to-bits-result
+float-to-bits-result c = no-nan (c .before .args .x) (c .if1 .left)
+
+float-from-bits-result : tie.Need-float-from-bits-result
+float-from-bits-result c = abs-no-nan binary64 (c .before .args .x) (held (c .before)) (no-nan (c .before .args .x) (c .if1 .left))
 
 returns : tie.Need-returns
-returns c =
-    let a = c .before in
-    let x = a .before .args .x in
-    c .from-bits .ensures
-    ∙ abs-bits binary64 (a .bits .result)
-    ∙ ap absOf (ap (ofBits binary64) (a .bits .ensures) ∙ ofBits-toBits binary64 x (subst T (sym (a .before .good .0 .1)) tt))
+returns c = abs-nan (c .before .args .x) (c .if1 .taken)
+
+returns-2 : tie.Need-returns-2
+returns-2 c = abs-pattern binary64 (c .before .args .x) (held (c .before))
 
 pub magnitude-spec : {M : Type 1} → statement M
-magnitude-spec = tie.close (tie.spec bits-requires from-bits-requires returns)
+magnitude-spec = tie.close (tie.spec float-to-bits-result float-from-bits-result returns returns-2)

@@ -4,7 +4,7 @@ use native.Mathlib.Omega.{arith}
 use lib.Dec.{T}
 use lib.Ieee.{binary64, fits}
 use Rattle.real.specs.Root.{rootOf}
-use Rattle.real.proofs.Values.{zero-by-zero}
+use Rattle.real.proofs.Values.{zero-by-zero, below-infinity}
 use Rattle.real.proofs.Patterns.{own-root, root-zero, root-minus-zero, root-infinity, root-none, pattern-of, pattern-lt}
 use borrow.Author.Needs.{needs}
 use Rattle.real.proofs.square_root.root.Statement.{statement}
@@ -20,8 +20,8 @@ bits-requires c κs = search needs
 root-bits-requires : tie.Need-root-bits-requires
 root-bits-requires c κs = search needs
 
-from-bits-requires : tie.Need-from-bits-requires
-from-bits-requires c κs = search needs
+float-from-bits-result : tie.Need-float-from-bits-result
+float-from-bits-result c = below-infinity binary64 (c .root-bits .result) (c .root-bits .ensures .0)
 
 returns : tie.Need-returns
 returns c =
@@ -30,8 +30,8 @@ returns c =
 
 returns-2 : tie.Need-returns-2
 returns-2 c =
-    let a = c .before .before .before .before in
-    c .from-bits .ensures ∙ c .before .root-bits .ensures .1 ∙ ap (rootOf binary64) (pattern-of binary64 (a .before .args .x) (a .bits .result) (held (a .before)) (a .bits .ensures))
+    let a = c .before .before .before in
+    c .root-bits .ensures .1 ∙ ap (rootOf binary64) (pattern-of binary64 (a .before .args .x) (a .bits .result) (held (a .before)) (a .bits .ensures))
 
 returns-3 : tie.Need-returns-3
 returns-3 c =
@@ -59,7 +59,7 @@ root-spec =
     (tie.spec
     bits-requires
     root-bits-requires
-    from-bits-requires
+    float-from-bits-result
     returns
     returns-2
     returns-3
