@@ -1,0 +1,223 @@
+//! The sheets that the job sheet's rules name, one by one. What each must print is written here by hand from document 01
+//! where that is short; the program and the oracle must both print it, and must agree where it is long.
+
+use cases::sheets::{largest_outline, largest_sheet, printed, sheet_of, sheet_program, whole_view};
+use oracle::PlineViewData;
+use oracle::sheet::{LONGEST, sheet_text};
+
+/// A square of side 2, its second side a half circle.
+const SQUARE: [f64; 12] = [0.0, 0.0, 0.0, 2.0, 0.0, 1.0, 2.0, 2.0, 0.0, 0.0, 2.0, 0.0];
+
+/// Where the first record of a sheet over the square stands.
+const RECORD: usize = 16 + 24 * 4;
+
+fn square_sheet(flags: u16, change: impl Fn(&mut PlineViewData)) -> Vec<u8> {
+    let mut record = whole_view(&SQUARE, 0);
+    change(&mut record);
+    sheet_of(&SQUARE, flags, &[record])
+}
+
+/// Both must print this.
+fn prints(name: &str, bytes: &[u8], text: &str) {
+    let show = |out: Vec<u8>| String::from_utf8(out).expect("a sheet's text is ASCII");
+    assert_eq!(show(sheet_text(bytes)), text, "the oracle: {name}");
+    assert_eq!(
+        show(printed(&sheet_program(), bytes)),
+        text,
+        "the program: {name}"
+    );
+}
+
+/// Both must print the same, which begins with this and has so many lines.
+fn begins(name: &str, bytes: &[u8], start: &str, lines: usize) {
+    let text = sheet_text(bytes);
+    assert!(text.starts_with(start.as_bytes()), "the oracle: {name}");
+    let count = text.iter().filter(|byte| **byte == b'\n').count();
+    assert_eq!(count, lines, "the oracle's lines: {name}");
+    assert!(
+        printed(&sheet_program(), bytes) == text,
+        "the program: {name}"
+    );
+}
+
+#[test]
+fn sizes() {
+    prints("no input", b"", "refused 11\n");
+    prints(
+        "no vertices",
+        &sheet_of(&[], 0, &[]),
+        "outline 0 0 open\nbox none\n",
+    );
+    prints(
+        "no vertices, closed",
+        &sheet_of(&[], 1, &[]),
+        "outline 0 0 closed\nbox none\n",
+    );
+    prints(
+        "one vertex",
+        &sheet_of(&SQUARE[..3], 0, &[]),
+        "outline 1 0 open\nbox none\n",
+    );
+    prints(
+        "two vertices",
+        &sheet_of(&SQUARE[..6], 0, &[]),
+        "outline 2 0 open\nbox 0000000000000000 0000000000000000 4000000000000000 0000000000000000\n",
+    );
+    let outline = largest_outline();
+    begins(
+        "1,024 vertices",
+        &sheet_of(&outline, 1, &[]),
+        "outline 1024 0 closed\nbox ",
+        2,
+    );
+    let one_more = [&outline[..], &[0.0; 3]].concat();
+    prints(
+        "1,025 vertices",
+        &sheet_of(&one_more, 1, &[]),
+        "refused 11\n",
+    );
+    let records = vec![whole_view(&SQUARE, 0); 257];
+    // Each view of the whole square from the middle of a side has 6 vertices.
+    begins(
+        "256 views",
+        &sheet_of(&SQUARE, 1, &records[1..]),
+        "outline 4 256 closed\n",
+        2 + 256 * 7,
+    );
+    prints("257 views", &sheet_of(&SQUARE, 1, &records), "refused 11\n");
+    begins(
+        "the largest",
+        &largest_sheet(),
+        "outline 1024 256 closed\n",
+        2 + 256 * 1027,
+    );
+}
+
+#[test]
+fn lengths() {
+    let sound = square_sheet(1, |_| {});
+    for cut in [
+        1,
+        63,
+        64,
+        65,
+        sound.len() - 17,
+        sound.len() - 16,
+        sound.len() - 15,
+    ] {
+        prints("short", &sound[..sound.len() - cut], "refused 11\n");
+    }
+    for longer in [
+        sound.len() + 1,
+        sound.len() + 64,
+        LONGEST,
+        LONGEST + 1,
+        200_000,
+    ] {
+        let mut bytes = sound.clone();
+        bytes.resize(longer, 0);
+        prints("long", &bytes, "refused 11\n");
+    }
+}
+
+#[test]
+fn flags_and_directions() {
+    for (flags, closed) in [(0, "open"), (1, "closed"), (2, "open"), (3, "closed")] {
+        let head = format!("outline 4 1 {closed}\nbox ");
+        begins("flags", &square_sheet(flags, |_| {}), &head, 9);
+        begins(
+            "inverted",
+            &square_sheet(flags, |d| d.inverted_direction = true),
+            &head,
+            9,
+        );
+    }
+    for flags in [4, 8, 0x100, 0x8000, 0xffff] {
+        prints(
+            "an unknown flag",
+            &square_sheet(flags, |_| {}),
+            "refused 11\n",
+        );
+    }
+}
+
+#[test]
+fn every_byte_of_the_header() {
+    let sound = square_sheet(1, |_| {});
+    for place in 0..16 {
+        let mut bytes = sound.clone();
+        bytes[place] ^= 0xff;
+        prints(&format!("byte {place}"), &bytes, "refused 11\n");
+    }
+}
+
+#[test]
+fn every_number_of_the_outline() {
+    let sound = square_sheet(1, |_| {});
+    for k in 0..12 {
+        let limit: f64 = if k % 3 == 2 { 1.0 } else { 1e6 };
+        for x in [f64::NAN, f64::INFINITY, limit.next_up(), -limit.next_up()] {
+            let mut bytes = sound.clone();
+            bytes[16 + 8 * k..][..8].copy_from_slice(&x.to_le_bytes());
+            prints(&format!("number {k}"), &bytes, "refused 1\n");
+        }
+    }
+}
+
+#[test]
+fn every_field_of_a_record() {
+    // The whole sheet is refused for the direction and the reserved bytes, in front of the outline's numbers.
+    let sound = square_sheet(1, |_| {});
+    for place in RECORD + 56..RECORD + 64 {
+        let mut bytes = sound.clone();
+        bytes[place] = 2;
+        bytes[16..24].copy_from_slice(&f64::NAN.to_le_bytes());
+        prints(&format!("byte {place}"), &bytes, "refused 12\n");
+    }
+    // Anything else is the view's own matter, after the outline's two lines.
+    let own = |name: &str, change: &dyn Fn(&mut PlineViewData), line: &str| {
+        let bytes = square_sheet(1, |d| change(d));
+        let text = sheet_text(&bytes);
+        let last = text.split_inclusive(|byte| *byte == b'\n').nth(2);
+        assert_eq!(last, Some(line.as_bytes()), "the oracle: {name}");
+        begins(name, &bytes, "outline 4 1 closed\nbox ", 3);
+    };
+    own("start index", &|d| d.start_index = 4, "view 0 refused 4\n");
+    own("offset", &|d| d.end_index_offset = 5, "view 0 2 hold 0\n");
+    own(
+        "start x",
+        &|d| d.updated_start.x = f64::NAN,
+        "view 0 refused 1\n",
+    );
+    own(
+        "start y",
+        &|d| d.updated_start.y = 1e6f64.next_up(),
+        "view 0 refused 1\n",
+    );
+    own(
+        "start bulge",
+        &|d| d.updated_start.bulge = -1.5,
+        "view 0 refused 1\n",
+    );
+    own(
+        "end bulge",
+        &|d| d.updated_end_bulge = 1f64.next_up(),
+        "view 0 refused 1\n",
+    );
+    own(
+        "end x",
+        &|d| d.end_point.x = f64::INFINITY,
+        "view 0 refused 1\n",
+    );
+    own("end y", &|d| d.end_point.y = f64::NAN, "view 0 refused 1\n");
+    own(
+        "start off its segment",
+        &|d| d.updated_start.y = 1.0,
+        "view 0 3 hold 0\n",
+    );
+    own(
+        "end off its segment",
+        &|d| d.end_point.y = 1.0,
+        "view 0 4 hold 0\n",
+    );
+}
