@@ -69,43 +69,27 @@ within s t p q = go (ltb p q) (ltb q p) refl refl
         let k = ltb-false q p f in
         subst (Within s t p) (let same : p ≡ q = omega arith in same) (at-bound s t p)
 
-lt-within : (x e : Float) → lt (absOf x) e ≡ lt (neg e) x && lt x e
-unfolding lt absOf neg
-lt-within nan nan = refl
-lt-within nan (inf t) = refl
-lt-within nan (fin t n d) = refl
-lt-within (inf s) nan = refl
-lt-within (inf true) (inf true) = refl
-lt-within (inf true) (inf false) = refl
-lt-within (inf false) (inf true) = refl
-lt-within (inf false) (inf false) = refl
-lt-within (inf true) (fin t n d) = refl
-lt-within (inf false) (fin t n d) = refl
-lt-within (fin s m e) nan = refl
-lt-within (fin s m e) (inf true) = refl
-lt-within (fin s m e) (inf false) = refl
-lt-within (fin s m e) (fin t n d) = within s t (m * up e * down d) (n * up d * down e) .0
-
-le-within : (x e : Float) → le (absOf x) e ≡ le (neg e) x && le x e
+-- a magnitude strictly below a bound, and at most a bound
+laws : (x e : Float) → (lt (absOf x) e ≡ lt (neg e) x && lt x e) × (le (absOf x) e ≡ le (neg e) x && le x e)
 unfolding le absOf neg
-le-within nan nan = refl
-le-within nan (inf t) = refl
-le-within nan (fin t n d) = refl
-le-within (inf s) nan = refl
-le-within (inf true) (inf true) = refl
-le-within (inf true) (inf false) = refl
-le-within (inf false) (inf true) = refl
-le-within (inf false) (inf false) = refl
-le-within (inf true) (fin t n d) = refl
-le-within (inf false) (fin t n d) = refl
-le-within (fin s m e) nan = refl
-le-within (fin s m e) (inf true) = refl
-le-within (fin s m e) (inf false) = refl
-le-within (fin s m e) (fin t n d) = within s t (m * up e * down d) (n * up d * down e) .1
+laws nan nan = (refl, refl)
+laws nan (inf t) = (refl, refl)
+laws nan (fin t n d) = (refl, refl)
+laws (inf s) nan = (refl, refl)
+laws (inf true) (inf true) = (refl, refl)
+laws (inf true) (inf false) = (refl, refl)
+laws (inf false) (inf true) = (refl, refl)
+laws (inf false) (inf false) = (refl, refl)
+laws (inf true) (fin t n d) = (refl, refl)
+laws (inf false) (fin t n d) = (refl, refl)
+laws (fin s m e) nan = (refl, refl)
+laws (fin s m e) (inf true) = (refl, refl)
+laws (fin s m e) (inf false) = (refl, refl)
+laws (fin s m e) (fin t n d) = within s t (m * up e * down d) (n * up d * down e)
 
 -- what the two comparisons of the code say of the definition's one
 pub lies-below : {r : Bool} (x e : Float) → r ≡ lt (neg e) x && lt x e → r ≡ lt (absOf x) e
-lies-below x e p = p ∙ sym (lt-within x e)
+lies-below x e p = p ∙ sym (laws x e .0)
 
 pub lies-within : {r : Bool} (x e : Float) → r ≡ le (neg e) x && le x e → r ≡ le (absOf x) e
-lies-within x e p = p ∙ sym (le-within x e)
+lies-within x e p = p ∙ sym (laws x e .1)
