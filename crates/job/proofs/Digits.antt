@@ -1,20 +1,16 @@
 -- Digits, as the code has them.
-use mathlib.Core.Path.{_≡_, ap}
+use mathlib.Core.Path.{_≡_}
 use mathlib.Core.List.{List, [], _∷_, _++_}
 use Prim.Native.Nat.{ℕ, suc, _/_, _%_, _≤_, _<_}
 use native.Mathlib.Nat.{div-div-eq-div-mul}
 use native.Mathlib.Omega.{arith}
 use lib.Seq.{append-snoc}
 use borrow.Author.Tests.{lt-ltb, le-ltb}
-use Rattle.job.specs.Text.{digit, glyph, hex, decimals, decimal}
+use Rattle.job.specs.Text.{digit, hex, decimals, decimal}
 
-pub hex-quarters : (x : ℕ) → hex 4 (x / 0x1_0000_0000_0000) ++ hex 4 (x / 0x1_0000_0000) ++ hex 4 (x / 0x1_0000) ++ hex 4 x ≡ hex 16 x
+pub hex-halves : (x : ℕ) → hex 8 (x / 0x1_0000_0000) ++ hex 8 (x % 0x1_0000_0000) ≡ hex 16 x
 unfolding hex
-hex-quarters x = simp div-div-eq-div-mul
-
-pub hex4-is : (x : ℕ) → glyph (x / 4096 % 16) ∷ glyph (x / 256 % 16) ∷ glyph (x / 16 % 16) ∷ glyph (x % 16) ∷ [] ≡ hex 4 x
-unfolding hex
-hex4-is x = let e : x % 16 ≡ x / 1 % 16 = omega arith in ap (λ (m : ℕ). glyph (x / 4096 % 16) ∷ glyph (x / 256 % 16) ∷ glyph (x / 16 % 16) ∷ glyph m ∷ []) e
+hex-halves x = simp (div-div-eq-div-mul, (let t : x % 0x1_0000_0000 / 268435456 % 16 ≡ x / 268435456 % 16 = omega arith in t), (let t : x % 0x1_0000_0000 / 16777216 % 16 ≡ x / 16777216 % 16 = omega arith in t), (let t : x % 0x1_0000_0000 / 1048576 % 16 ≡ x / 1048576 % 16 = omega arith in t), (let t : x % 0x1_0000_0000 / 65536 % 16 ≡ x / 65536 % 16 = omega arith in t), (let t : x % 0x1_0000_0000 / 4096 % 16 ≡ x / 4096 % 16 = omega arith in t), (let t : x % 0x1_0000_0000 / 256 % 16 ≡ x / 256 % 16 = omega arith in t), (let t : x % 0x1_0000_0000 / 16 % 16 ≡ x / 16 % 16 = omega arith in t), (let t : x % 0x1_0000_0000 / 1 % 16 ≡ x / 1 % 16 = omega arith in t))
 
 -- ---- decimal numbers of one digit to four, by two digits at a time
 

@@ -3,6 +3,7 @@ mod Tests
 mod Replies
 mod Writing
 mod Digits
+mod Spread
 mod Joined
 mod Fill
 mod Boxes

@@ -43,6 +43,17 @@ four l i a b c d =
     let g : i + 3 ≡ suc (suc (suc i)) = omega arith in
     record { text = rw (e, f, g); end = refl }
 
+pub eight : (l : List ℕ) (i a b c d e f g h : ℕ) → Wrote l i (a ∷ b ∷ c ∷ d ∷ e ∷ f ∷ g ∷ h ∷ []) (set (set (set (set (set (set (set (set l i a) (i + 1) b) (i + 2) c) (i + 3) d) (i + 4) e) (i + 5) f) (i + 6) g) (i + 7) h) (i + 8)
+eight l i a b c d e f g h =
+    let e₁ : i + 1 ≡ suc i = omega arith in
+    let e₂ : i + 2 ≡ suc (suc i) = omega arith in
+    let e₃ : i + 3 ≡ suc (suc (suc i)) = omega arith in
+    let e₄ : i + 4 ≡ suc (suc (suc (suc i))) = omega arith in
+    let e₅ : i + 5 ≡ suc (suc (suc (suc (suc i)))) = omega arith in
+    let e₆ : i + 6 ≡ suc (suc (suc (suc (suc (suc i))))) = omega arith in
+    let e₇ : i + 7 ≡ suc (suc (suc (suc (suc (suc (suc i)))))) = omega arith in
+    record { text = rw (e₁, e₂, e₃, e₄, e₅, e₆, e₇); end = refl }
+
 -- text from the start of a buffer that has room for it
 pub filled : {l l′ t : List ℕ} {e : ℕ} → Wrote l 0 t l′ e → e ≤ length l → Filled t l l′ e
 filled {l} {l′} {t} {e} w h =

@@ -20,6 +20,11 @@ unfoldable pub hex : ℕ → ℕ → List ℕ
 hex zero n = []
 hex (suc k) n = glyph (n / 16 ^ k % 16) ∷ hex k n
 
+-- the number whose bytes these are, the least first
+unfoldable pub word : List ℕ → ℕ
+word [] = 0
+word (a ∷ l) = a + 256 * word l
+
 -- the decimal digits of n below 10 ^ k, with no zero in front
 unfoldable pub decimals : ℕ → ℕ → List ℕ
 decimals zero n = []

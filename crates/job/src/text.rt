@@ -7,35 +7,44 @@ ghost use lib.ListN.{length};
 ghost use Rattle.job.specs.Text as spec;
 ghost use Rattle.job.specs.Wrote.{Wrote};
 
-// The ASCII code of a hexadecimal digit; past 9 the sum of d and 6 reaches 16.
-fn glyph(d: u64) -> u8
-    requires { ⌜ d < 16 ⌝ }
-    ensures { λ r. ⌜ r ≡ spec.glyph d ⌝ }
+// The codes of x's eight hexadecimal digits, a byte for each, the first in the lowest. Halves, bytes and digits are spread
+// in turn, all parts of a number at once: what the mask leaves is each part's first half, which moves down. Past 9 the sum
+// of a digit and 6 reaches 16.
+fn glyphs(x: u64) -> u64
+    requires { ⌜ x < 0x1_0000_0000 ⌝ }
+    ensures { λ r. ⌜ r ≡ spec.word (spec.hex 8 x) ⌝ }
 {
-    (48 + d + (d + 6) / 16 * 39) as u8
+    let halves = x * 0x1_0000_0000 - x / 0x1_0000 * 0xffff_ffff_ffff;
+    let bytes = halves * 0x1_0000 - (halves / 0x100 & 0xff_0000_00ff) * 0xff_ffff;
+    let digits = bytes * 0x100 - (bytes / 0x10 & 0xf_000f_000f_000f) * 0xfff;
+    let past_9 = (digits + 0x606_0606_0606_0606) / 0x10 & 0x101_0101_0101_0101;
+    digits + 0x3030_3030_3030_3030 + past_9 * 39
 }
 
-// The last four hexadecimal digits of x.
-fn put_hex4(out: &mut [u8], at: usize, x: u64) -> usize
-    requires { ⌜ at + 4 ≤ length (now out) ⌝ }
-    ensures { λ r. ⌜ (Wrote (now (out .entry)) at (spec.hex 4 x) (now (out .exit)) r) × (r ≡ at + 4) ⌝ }
+// Eight digits.
+fn put_hex8(out: &mut [u8], at: usize, x: u64) -> usize
+    requires { ⌜ (x < 0x1_0000_0000) × (at + 8 ≤ length (now out)) ⌝ }
+    ensures { λ r. ⌜ (Wrote (now (out .entry)) at (spec.hex 8 x) (now (out .exit)) r) × (r ≡ at + 8) ⌝ }
 {
-    out[at] = glyph(x / 4096 % 16);
-    out[at + 1] = glyph(x / 256 % 16);
-    out[at + 2] = glyph(x / 16 % 16);
-    out[at + 3] = glyph(x % 16);
-    at + 4
+    let w = glyphs(x);
+    out[at] = (w % 0x100) as u8;
+    out[at + 1] = (w / 0x100 % 0x100) as u8;
+    out[at + 2] = (w / 0x1_0000 % 0x100) as u8;
+    out[at + 3] = (w / 0x100_0000 % 0x100) as u8;
+    out[at + 4] = (w / 0x1_0000_0000 % 0x100) as u8;
+    out[at + 5] = (w / 0x100_0000_0000 % 0x100) as u8;
+    out[at + 6] = (w / 0x1_0000_0000_0000 % 0x100) as u8;
+    out[at + 7] = (w / 0x100_0000_0000_0000) as u8;
+    at + 8
 }
 
-// All sixteen of them.
+// All sixteen digits of x.
 fn put_hex(out: &mut [u8], at: usize, x: u64) -> usize
     requires { ⌜ at + 16 ≤ length (now out) ⌝ }
     ensures { λ r. ⌜ (Wrote (now (out .entry)) at (spec.hex 16 x) (now (out .exit)) r) × (r ≡ at + 16) ⌝ }
 {
-    let a = put_hex4(out, at, x / 0x1_0000_0000_0000);
-    let b = put_hex4(out, a, x / 0x1_0000_0000);
-    let c = put_hex4(out, b, x / 0x1_0000);
-    put_hex4(out, c, x)
+    let a = put_hex8(out, at, x / 0x1_0000_0000);
+    put_hex8(out, a, x % 0x1_0000_0000)
 }
 
 pub(crate) fn put_byte(out: &mut [u8], at: usize, b: u8) -> usize
