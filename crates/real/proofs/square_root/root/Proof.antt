@@ -1,11 +1,11 @@
 -- The zeros and the infinity are their own roots, `root_bits` has the root of every other number above zero, and the rest have none.
-use mathlib.Core.Path.{sym, ap, _∙_, subst}
+use mathlib.Core.Path.{refl, sym, ap, _∙_, subst}
 use native.Mathlib.Omega.{arith}
 use lib.Dec.{T}
-use lib.Ieee.{binary64, fits}
+use lib.Ieee.{binary64, fits, toBits}
 use Rattle.real.specs.Root.{rootOf}
-use Rattle.real.proofs.Values.{zero-by-zero, below-infinity}
-use Rattle.real.proofs.Patterns.{own-root, root-zero, root-minus-zero, root-infinity, root-none, pattern-of, pattern-lt}
+use Rattle.real.proofs.Values.{zero-by-zero, below-infinity, no-nan}
+use Rattle.real.proofs.Patterns.{own-root, nan-root, root-zero, root-minus-zero, root-infinity, root-none, pattern-of, pattern-lt}
 use borrow.Author.Needs.{needs}
 use Rattle.real.proofs.square_root.root.Statement.{statement}
 use Rattle.real.proofs.square_root.root.Tie as tie
@@ -14,8 +14,8 @@ use Rattle.real.proofs.square_root.root.Tie as tie
 held : (c : tie.Start) → T (fits binary64 (c .args .x))
 held c = subst T (sym (c .good .0 .1)) tt
 
-bits-requires : tie.Need-bits-requires
-bits-requires c κs = search needs
+float-to-bits-b : tie.Need-float-to-bits-b
+float-to-bits-b c = no-nan (c .before .args .x) (c .if1 .left)
 
 root-bits-requires : tie.Need-root-bits-requires
 root-bits-requires c κs = search needs
@@ -24,44 +24,47 @@ float-from-bits-result : tie.Need-float-from-bits-result
 float-from-bits-result c = below-infinity binary64 (c .root-bits .result) (c .root-bits .ensures .0)
 
 returns : tie.Need-returns
-returns c =
-    let a = c .before .before in
-    own-root binary64 (a .before .args .x) 0 (held (a .before)) (sym (c .if2 .taken) ∙ a .bits .ensures) (root-zero binary64)
+returns c = nan-root binary64 (c .before .args .x) (c .if1 .taken)
 
 returns-2 : tie.Need-returns-2
 returns-2 c =
     let a = c .before .before .before in
-    c .root-bits .ensures .1 ∙ ap (rootOf binary64) (pattern-of binary64 (a .before .args .x) (a .bits .result) (held (a .before)) (a .bits .ensures))
+    own-root binary64 (a .args .x) 0 (held a) (sym (c .if3 .taken)) (root-zero binary64)
 
 returns-3 : tie.Need-returns-3
 returns-3 c =
-    let a = c .before .before in
-    own-root binary64 (a .before .args .x) 0x7ff0_0000_0000_0000 (held (a .before)) (sym (c .if3 .taken) ∙ a .bits .ensures) (root-infinity binary64)
+    let a = c .before .before .before .before in
+    c .root-bits .ensures .1 ∙ ap (rootOf binary64) (pattern-of binary64 (a .args .x) (toBits binary64 (a .args .x)) (held a) refl)
 
 returns-4 : tie.Need-returns-4
 returns-4 c =
     let a = c .before .before .before in
-    own-root binary64 (a .before .args .x) 0x8000_0000_0000_0000 (held (a .before)) (sym (c .if4 .taken) ∙ a .bits .ensures) (root-minus-zero binary64)
+    own-root binary64 (a .args .x) 0x7ff0_0000_0000_0000 (held a) (sym (c .if4 .taken)) (root-infinity binary64)
 
 returns-5 : tie.Need-returns-5
 returns-5 c =
-    let a = c .before .before .before in
-    let x = a .before .args .x in
-    let b = a .bits .result in
-    let t = held (a .before) in
+    let a = c .before .before .before .before in
+    own-root binary64 (a .args .x) 0x8000_0000_0000_0000 (held a) (sym (c .if5 .taken)) (root-minus-zero binary64)
+
+returns-6 : tie.Need-returns-6
+returns-6 c =
+    let a = c .before .before .before .before in
+    let x = a .args .x in
+    let b = toBits binary64 x in
     zero-by-zero binary64
-    ∙ sym (root-none binary64 b (pattern-lt binary64 x b t (a .bits .ensures)) (omega arith) (c .if4 .left))
-    ∙ ap (rootOf binary64) (pattern-of binary64 x b t (a .bits .ensures))
+    ∙ sym (root-none binary64 b (pattern-lt binary64 x b (held a) refl) (omega arith) (c .if5 .left))
+    ∙ ap (rootOf binary64) (pattern-of binary64 x b (held a) refl)
 
 pub root-spec : {M : Type 1} → statement M
 root-spec =
     tie.close
     (tie.spec
-    bits-requires
+    returns
+    float-to-bits-b
     root-bits-requires
     float-from-bits-result
-    returns
     returns-2
     returns-3
     returns-4
-    returns-5)
+    returns-5
+    returns-6)
