@@ -1,20 +1,20 @@
--- A magnitude against a bound is two comparisons, for every float and every bound: |x| < e where -e < x and x < e, and so for "at most".
+-- A magnitude that is at most a bound is two comparisons, for every float and every bound: |x| <= e where -e <= x and x <= e.
 use mathlib.Core.Path.{_≡_, refl, sym, _∙_, subst}
 use mathlib.Core.Bool.{Bool, true, false, not, _&&_, _||_}
 use Prim.Native.Nat.{ℕ, zero, suc, _+_, _*_, _<_}
 use native.Mathlib.Omega.{arith}
 use lib.Dec.{ltb, eqb}
 use borrow.Author.Tests.{ltb-true, ltb-false, lt-ltb, le-ltb, eq-eqb, ne-eqb}
-use lib.Ieee.{Float, nan, inf, fin, up, down, below, level, neg, lt, le}
+use lib.Ieee.{Float, nan, inf, fin, up, down, below, level, neg, le}
 use Rattle.real.specs.Root.{absOf}
 
 -- ±a ≤ ±b
 abbrev most : Bool → ℕ → Bool → ℕ → Bool
 most s a t b = below s a t b || level s a t b
 
--- |±p| against ±q, both laws at once
+-- |±p| ≤ ±q
 abbrev Within : Bool → Bool → ℕ → ℕ → Type 0
-Within s t p q = (below false p t q ≡ below (not t) q s p && below s p t q) × (most false p t q ≡ most (not t) q s p && most s p t q)
+Within s t p q = most false p t q ≡ most (not t) q s p && most s p t q
 
 -- what the tests say where a is the smaller
 module _ (a b : ℕ) (h : a < b) where
@@ -37,26 +37,26 @@ module _ (a b : ℕ) (h : a < b) where
   some′ = lt-ltb 0 (b + a) (omega arith)
 
 inside : (s t : Bool) (p q : ℕ) → p < q → Within s t p q
-inside false false p q h = (simp (less p q h, some′ p q h), simp (less p q h, some′ p q h))
-inside true false p q h = (simp (less p q h, some p q h), simp (less p q h, some p q h))
-inside false true p q h = (simp (not-less p q h), simp (not-less p q h, differ p q h, differ′ p q h))
-inside true true p q h = (refl, simp (not-less p q h, differ p q h, differ′ p q h))
+inside false false p q h = simp (less p q h, some′ p q h)
+inside true false p q h = simp (less p q h, some p q h)
+inside false true p q h = simp (not-less p q h, differ p q h, differ′ p q h)
+inside true true p q h = simp (not-less p q h, differ p q h, differ′ p q h)
 
 outside : (s t : Bool) (p q : ℕ) → q < p → Within s t p q
-outside false false p q h = (simp (not-less q p h, some q p h), simp (not-less q p h, differ′ q p h, some q p h))
-outside true false p q h = (simp (not-less q p h), simp (not-less q p h, differ q p h, differ′ q p h))
-outside false true p q h = (simp (less q p h), simp (less q p h, differ′ q p h))
-outside true true p q h = (refl, simp (differ q p h, differ′ q p h))
+outside false false p q h = simp (not-less q p h, differ′ q p h, some q p h)
+outside true false p q h = simp (not-less q p h, differ q p h, differ′ q p h)
+outside false true p q h = simp (less q p h, differ′ q p h)
+outside true true p q h = simp (differ q p h, differ′ q p h)
 
 at-bound : (s t : Bool) (p : ℕ) → Within s t p p
-at-bound false false zero = (refl, refl)
-at-bound true false zero = (refl, refl)
-at-bound false true zero = (refl, refl)
-at-bound true true zero = (refl, refl)
-at-bound false false (suc k) = let p = suc k in (simp (le-ltb p p (omega arith), lt-ltb 0 (p + p) (omega arith)), simp (le-ltb p p (omega arith), eq-eqb p p refl, lt-ltb 0 (p + p) (omega arith)))
-at-bound true false (suc k) = let p = suc k in (simp (le-ltb p p (omega arith)), simp (le-ltb p p (omega arith), eq-eqb p p refl, lt-ltb 0 (p + p) (omega arith)))
-at-bound false true (suc k) = let p = suc k in (simp (le-ltb p p (omega arith)), simp (le-ltb p p (omega arith), eq-eqb p p refl, ne-eqb p 0 (λ e. omega arith)))
-at-bound true true (suc k) = let p = suc k in (refl, simp (eq-eqb p p refl, ne-eqb p 0 (λ e. omega arith)))
+at-bound false false zero = refl
+at-bound true false zero = refl
+at-bound false true zero = refl
+at-bound true true zero = refl
+at-bound false false (suc k) = let p = suc k in simp (le-ltb p p (omega arith), eq-eqb p p refl, lt-ltb 0 (p + p) (omega arith))
+at-bound true false (suc k) = let p = suc k in simp (le-ltb p p (omega arith), eq-eqb p p refl, lt-ltb 0 (p + p) (omega arith))
+at-bound false true (suc k) = let p = suc k in simp (le-ltb p p (omega arith), eq-eqb p p refl, ne-eqb p 0 (λ e. omega arith))
+at-bound true true (suc k) = let p = suc k in simp (eq-eqb p p refl, ne-eqb p 0 (λ e. omega arith))
 
 within : (s t : Bool) (p q : ℕ) → Within s t p q
 within s t p q = go (ltb p q) (ltb q p) refl refl
@@ -69,27 +69,23 @@ within s t p q = go (ltb p q) (ltb q p) refl refl
         let k = ltb-false q p f in
         subst (Within s t p) (let same : p ≡ q = omega arith in same) (at-bound s t p)
 
--- a magnitude strictly below a bound, and at most a bound
-laws : (x e : Float) → (lt (absOf x) e ≡ lt (neg e) x && lt x e) × (le (absOf x) e ≡ le (neg e) x && le x e)
+law : (x e : Float) → le (absOf x) e ≡ le (neg e) x && le x e
 unfolding le absOf neg
-laws nan nan = (refl, refl)
-laws nan (inf t) = (refl, refl)
-laws nan (fin t n d) = (refl, refl)
-laws (inf s) nan = (refl, refl)
-laws (inf true) (inf true) = (refl, refl)
-laws (inf true) (inf false) = (refl, refl)
-laws (inf false) (inf true) = (refl, refl)
-laws (inf false) (inf false) = (refl, refl)
-laws (inf true) (fin t n d) = (refl, refl)
-laws (inf false) (fin t n d) = (refl, refl)
-laws (fin s m e) nan = (refl, refl)
-laws (fin s m e) (inf true) = (refl, refl)
-laws (fin s m e) (inf false) = (refl, refl)
-laws (fin s m e) (fin t n d) = within s t (m * up e * down d) (n * up d * down e)
+law nan nan = refl
+law nan (inf t) = refl
+law nan (fin t n d) = refl
+law (inf s) nan = refl
+law (inf true) (inf true) = refl
+law (inf true) (inf false) = refl
+law (inf false) (inf true) = refl
+law (inf false) (inf false) = refl
+law (inf true) (fin t n d) = refl
+law (inf false) (fin t n d) = refl
+law (fin s m e) nan = refl
+law (fin s m e) (inf true) = refl
+law (fin s m e) (inf false) = refl
+law (fin s m e) (fin t n d) = within s t (m * up e * down d) (n * up d * down e)
 
 -- what the two comparisons of the code say of the definition's one
-pub lies-below : {r : Bool} (x e : Float) → r ≡ lt (neg e) x && lt x e → r ≡ lt (absOf x) e
-lies-below x e p = p ∙ sym (laws x e .0)
-
 pub lies-within : {r : Bool} (x e : Float) → r ≡ le (neg e) x && le x e → r ≡ le (absOf x) e
-lies-within x e p = p ∙ sym (laws x e .1)
+lies-within x e p = p ∙ sym (law x e)
