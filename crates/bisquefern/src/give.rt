@@ -15,7 +15,7 @@ use view::CountAnswer;
 use view::Mark;
 use view::MarkAnswer;
 use view::ViewAnswer;
-ghost use Rattle.real.specs.Sqrt.{sqrtReply};
+ghost use Rattle.real.specs.SqrtReply.{sqrtReply};
 ghost use Rattle.plane.specs.From.{vertexReply};
 ghost use Rattle.seg.specs.Reply.{pointReply, boolReply};
 ghost use Rattle.seg.specs.Arc.{arcReply};

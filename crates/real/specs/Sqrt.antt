@@ -6,12 +6,6 @@ use lib.Ieee.{Float, inf, fin, Format, le, lt}
 use Rattle.real.specs.Refusal.{badNumber}
 use Rattle.real.specs.Reply.{Reply, refused, given}
 use Rattle.real.specs.Root.{IsRoot}
-use Rattle.real.specs.declared.square_root.SqrtAnswer.{SqrtAnswer}
-use Rattle.real.specs.declared.square_root.SqrtAnswer.the-variants as sqrt
-
-abbrev pub sqrtReply : SqrtAnswer → Reply Float
-sqrtReply (sqrt.Given r) = given r
-sqrtReply (sqrt.Refused n) = refused n
 
 -- a finite number from minus zero up: -0 compares as +0, and a NaN fails both tests
 unfoldable pub rootable : Float → Bool

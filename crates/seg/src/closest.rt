@@ -61,7 +61,8 @@ fn arc_closest(v1: PlineVertex, v2: PlineVertex, center: Vector2, p: Vector2, ep
     end
 }
 
-fn closest(v1: PlineVertex, v2: PlineVertex, p: Vector2, eps: f64) -> Vector2
+// The closest point, for any numbers and any tolerance.
+pub fn closest_point(v1: PlineVertex, v2: PlineVertex, p: Vector2, eps: f64) -> Vector2
     ensures { λ r. ⌜ r ≡ closestOf double (double .line) v1 v2 p eps ⌝ }
 {
     if v1.bulge_is_zero() {
@@ -84,5 +85,5 @@ pub fn seg_closest_point(v1: PlineVertex, v2: PlineVertex, p: Vector2, eps: f64)
     if !tol_in_range(eps) {
         return PointAnswer::Refused(BAD_TOLERANCE);
     }
-    PointAnswer::Given(closest(v1, v2, p, eps))
+    PointAnswer::Given(closest_point(v1, v2, p, eps))
 }

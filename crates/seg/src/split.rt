@@ -104,7 +104,8 @@ fn split_arc(v1: PlineVertex, v2: PlineVertex, p: Vector2) -> SplitResult
     split_chords(v1, p, whole, chord1, chord2)
 }
 
-fn split(v1: PlineVertex, v2: PlineVertex, p: Vector2, eps: f64) -> SplitResult
+// The split, for any numbers and any tolerance.
+pub fn split_at_point(v1: PlineVertex, v2: PlineVertex, p: Vector2, eps: f64) -> SplitResult
     ensures { λ r. ⌜ r ≡ splitOf double (double .line) v1 v2 p eps ⌝ }
 {
     let start = Vector2 { x: v1.x, y: v1.y };
@@ -136,5 +137,5 @@ pub fn seg_split_at_point(v1: PlineVertex, v2: PlineVertex, p: Vector2, eps: f64
     if !tol_in_range(eps) {
         return SplitAnswer::Refused(BAD_TOLERANCE);
     }
-    SplitAnswer::Given(split(v1, v2, p, eps))
+    SplitAnswer::Given(split_at_point(v1, v2, p, eps))
 }

@@ -11,6 +11,6 @@ pub mod Demand3
 pub mod Replies
 pub mod Shape
 pub mod Table
-mod Segments
+pub mod Segments
 pub mod Cut
 pub mod Made

@@ -19,16 +19,6 @@ module _ (g : Grade) where
   abbrev pub nearEnd : PlineVertex → PlineVertex → Vector2 → Bool
   nearEnd v1 v2 p = vnearOf g p (posOf v1) (g .onSegment) || vnearOf g p (posOf v2) (g .onSegment)
 
-  -- a segment and a point in range; and a tolerance
-  pub record PointIn (v1 v2 : PlineVertex) (p : Vector2) : Type 0 where
-    pub segment : segOk g v1 v2 ≡ true
-    pub point : pointOk g p ≡ true
-
-  pub record SplitIn (v1 v2 : PlineVertex) (p : Vector2) (eps : Float) : Type 0 where
-    pub segment : segOk g v1 v2 ≡ true
-    pub point : pointOk g p ≡ true
-    pub tolerance : tolOk g eps ≡ true
-
   -- a segment of an outline whose numbers are in range, and a point
   pub record SegIn (s : List Float) (k : ℕ) (p : Vector2) : Type 0 where
     pub few : countOf s ≤ mostVertices

@@ -4,7 +4,6 @@ use crate::outline::fwd_wrapping_index;
 use crate::outline::serves_views;
 use crate::outline::vertex_at;
 use crate::outline::vertices_in_range;
-use crate::segment::split_of;
 use crate::view_data::PlineViewData;
 use crate::view_data::ViewAnswer;
 use plane::PlineVertex;
@@ -17,6 +16,7 @@ use real::BAD_NUMBER;
 use real::BAD_OFFSET;
 use real::BAD_OUTLINE;
 use real::BAD_TOLERANCE;
+use seg::split_at_point;
 ghost use mathlib.Core.Path.{_≡_};
 ghost use mathlib.Core.Bool.{_&&_};
 ghost use lib.Dec.{ltb};
@@ -52,7 +52,7 @@ fn end_on_segment(source: &[f64], at: usize, p: Vector2, traverse: usize, eps: f
     let count = source.len() / 3;
     let v1 = vertex_at(source, at);
     let v2 = vertex_at(source, fwd_wrapping_index(at, 1, count));
-    let split = split_of(v1, v2, p, eps);
+    let split = split_at_point(v1, v2, p, eps);
     let start = split.updated_start;
     Ending {
         offset: traverse,

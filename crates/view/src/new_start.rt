@@ -4,7 +4,6 @@ use crate::outline::fwd_wrapping_index;
 use crate::outline::serves_views;
 use crate::outline::vertex_at;
 use crate::outline::vertices_in_range;
-use crate::segment::split_of;
 use crate::view_data::PlineViewData;
 use crate::view_data::ViewAnswer;
 use plane::Vector2;
@@ -16,6 +15,7 @@ use real::BAD_OUTLINE;
 use real::BAD_TOLERANCE;
 use real::NOT_CLOSED;
 use seg::SplitResult;
+use seg::split_at_point;
 ghost use mathlib.Core.Path.{_≡_};
 ghost use mathlib.Core.Bool.{_&&_};
 ghost use Rattle.plane.specs.Grade.{double};
@@ -69,7 +69,7 @@ fn round_from(source: &[f64], p: Vector2, k: usize, eps: f64) -> PlineViewData
     let count = source.len() / 3;
     let v1 = vertex_at(source, k);
     let v2 = vertex_at(source, fwd_wrapping_index(k, 1, count));
-    let split = split_of(v1, v2, p, eps);
+    let split = split_at_point(v1, v2, p, eps);
     let e = round_ending(source, p, k, eps, split);
     let first = split.split_vertex;
     PlineViewData {

@@ -3,30 +3,10 @@ use crate::outline::fwd_wrapping_index;
 use crate::outline::vertex_at;
 use plane::PlineVertex;
 use plane::Vector2;
-use seg::PointAnswer;
-use seg::SplitAnswer;
-use seg::SplitResult;
-use seg::seg_closest_point;
-use seg::seg_split_at_point;
+use seg::closest_point;
 ghost use mathlib.Core.Path.{_≡_};
 ghost use Rattle.plane.specs.Grade.{double};
-ghost use Rattle.seg.specs.Split.{splitOf};
-ghost use Rattle.view.specs.Segment.{SegIn, PointIn, SplitIn, nearEnd, nearClosest, onSegmentOf, onOutline};
-
-// The split of a segment, which is not refused here.
-pub fn split_of(v1: PlineVertex, v2: PlineVertex, p: Vector2, eps: f64) -> SplitResult
-    requires { ⌜ SplitIn double v1 v2 p eps ⌝ }
-    ensures { λ r. ⌜ r ≡ splitOf double (double .line) v1 v2 p eps ⌝ }
-{
-    let answer = seg_split_at_point(v1, v2, p, eps);
-    match answer {
-        SplitAnswer::Given(split) => split,
-        SplitAnswer::Refused(_) => SplitResult {
-            updated_start: v1,
-            split_vertex: v1,
-        },
-    }
-}
+ghost use Rattle.view.specs.Segment.{SegIn, nearEnd, nearClosest, onSegmentOf, onOutline};
 
 fn near_an_end(v1: PlineVertex, v2: PlineVertex, p: Vector2) -> bool
     ensures { λ r. ⌜ r ≡ nearEnd double v1 v2 p ⌝ }
@@ -37,18 +17,12 @@ fn near_an_end(v1: PlineVertex, v2: PlineVertex, p: Vector2) -> bool
 }
 
 fn near_closest_point(v1: PlineVertex, v2: PlineVertex, p: Vector2) -> bool
-    requires { ⌜ PointIn double v1 v2 p ⌝ }
     ensures { λ r. ⌜ r ≡ nearClosest double (double .line) v1 v2 p ⌝ }
 {
-    let answer = seg_closest_point(v1, v2, p, 1e-5);
-    match answer {
-        PointAnswer::Given(closest) => closest.fuzzy_eq_eps(p, 1e-3),
-        PointAnswer::Refused(_) => false,
-    }
+    closest_point(v1, v2, p, 1e-5).fuzzy_eq_eps(p, 1e-3)
 }
 
 fn is_on_segment(v1: PlineVertex, v2: PlineVertex, p: Vector2) -> bool
-    requires { ⌜ PointIn double v1 v2 p ⌝ }
     ensures { λ r. ⌜ r ≡ onSegmentOf double (double .line) v1 v2 p ⌝ }
 {
     near_an_end(v1, v2, p) || near_closest_point(v1, v2, p)

@@ -1,7 +1,7 @@
 -- The values are written, or the refusal is handed on.
 use mathlib.Core.Path.{sym, ap, refl}
 use borrow.Author.Needs.{needs}
-use Rattle.real.specs.Sqrt.{sqrtReply}
+use Rattle.real.specs.SqrtReply.{sqrtReply}
 use Rattle.bisquefern.specs.Lent.{one, itself}
 use Rattle.bisquefern.proofs.Laws.{refuses, replies, stored-as}
 use Rattle.bisquefern.proofs.give.give_root.Statement.{statement}

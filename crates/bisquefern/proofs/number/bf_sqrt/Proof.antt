@@ -1,6 +1,6 @@
 -- The root is what `sqrt` promises, and its answer is written.
 use borrow.Author.Needs.{needs}
-use Rattle.real.specs.Sqrt.{sqrtReply}
+use Rattle.real.specs.SqrtReply.{sqrtReply}
 use Rattle.bisquefern.proofs.number.bf_sqrt.Statement.{statement}
 use Rattle.bisquefern.proofs.number.bf_sqrt.Tie as tie
 

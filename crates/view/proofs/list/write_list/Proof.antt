@@ -1,5 +1,5 @@
 -- The loop's invariant: the first k vertices stand in the buffer, and then what it held.
-use mathlib.Core.Path.{_≡_, refl, sym, ap, ap₂, _∙_}
+use mathlib.Core.Path.{_≡_, refl, sym, ap, _∙_}
 use mathlib.Core.List.{List, _++_}
 use Prim.Native.Nat.{ℕ, _-_, _*_, _≤_}
 use native.Mathlib.Omega.{arith}
@@ -7,13 +7,11 @@ use native.Mathlib.Numerals.{add-one}
 use borrow.Author.Needs.{needs}
 use denote.Ref.{now}
 use lib.ListN.{length, drop}
-use lib.Seq.{sets}
 use lib.Ieee.{Float, neg}
 use Rattle.plane.specs.Grade.{double}
-use Rattle.plane.specs.declared.pline_vertex.PlineVertex.{PlineVertex}
-use Rattle.view.specs.Plain.{Vert, tab, flat, numbers}
+use Rattle.view.specs.Plain.{Vert, tab, flat}
 use Rattle.view.specs.View.{vertexAt, viewList}
-use Rattle.view.specs.Outline.{countOf, vertOf, srcOf}
+use Rattle.view.specs.Outline.{countOf, srcOf}
 use Rattle.view.specs.Record.{viewOf, vertices}
 use Rattle.view.specs.Answers.{written}
 use Rattle.view.specs.declared.view_data.PlineViewData.{PlineViewData}
@@ -46,8 +44,7 @@ loop-again c =
     let put = c .before .before .put in (
       omega arith,
       put .kept .0 ∙ at-loop .loop .inv .1,
-      put .ensures
-          ∙ ap₂ (λ (l : List Float) (v : PlineVertex). sets l (3 * k) (numbers (vertOf v))) (at-loop .loop .inv .2) (c .before .before .before .before .vertex-of .ensures)
+      simp (at-loop .loop .inv .2, c .before .before .before .before .vertex-of .ensures) at (put .ensures)
           ∙ flat-put (vertex (now (a .source)) (a .d)) k (now (a .out)) (omega arith)
           ∙ ap (after (now (a .source)) (a .d) (now (a .out))) (sym (add-one k)),
     )

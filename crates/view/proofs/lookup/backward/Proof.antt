@@ -6,11 +6,8 @@ use borrow.Author.Needs.{needs}
 use denote.Ref.{now}
 use lib.Ieee.{neg}
 use Rattle.plane.specs.Grade.{double}
-use Rattle.plane.specs.Vertex.{withBulgeOf}
-use Rattle.plane.specs.declared.pline_vertex.PlineVertex.{PlineVertex}
-use Rattle.view.specs.View.{wrapped}
-use Rattle.view.specs.Outline.{vertexOf, countOf, ofVert}
-use Rattle.view.specs.Record.{viewOf, backwardOf}
+use Rattle.view.specs.Outline.{srcOf, countOf}
+use Rattle.view.specs.Record.{viewOf}
 use Rattle.view.proofs.Views.{back-first, back-inner, back-final, back-past}
 use Rattle.view.proofs.lookup.backward.Statement.{statement}
 use Rattle.view.proofs.lookup.backward.Tie as tie
@@ -18,33 +15,27 @@ use Rattle.view.proofs.lookup.backward.Tie as tie
 returns : tie.Need-returns
 returns c =
     let b = c .before .before .before .before .before in
-    c .from-vector2 .ensures
-    ∙ sym (ap (backwardOf double (now (b .args .source)) (b .args .d)) (c .before .before .before .if1 .taken) ∙ ap ofVert (back-first _ _ _ _ (viewOf (b .args .d))))
+    let s = now (b .args .source) in
+    simp (c .from-vector2 .ensures, c .before .before .before .if1 .taken, back-first neg (double .zero) (srcOf s) (countOf s) (viewOf (b .args .d)))
 
 returns-2 : tie.Need-returns-2
 returns-2 c =
     let w = c .before .before .before .before .before in
     let b = w .before .before .before .before in
     let s = now (b .args .source) in
-    let to = w .fwd-wrapping-index .ensures .is in
-    c .with-bulge .ensures
-    ∙ ap₂ (λ (v u : PlineVertex). withBulgeOf v (neg (u .bulge)))
-    (c .before .before .vertex-at2 .ensures ∙ ap (vertexOf s) (c .before .before .before .before .fwd-wrapping-index2 .ensures .is ∙ ap (λ (i : ℕ). wrapped i 1 (countOf s)) to))
-    (c .before .before .before .vertex-at .ensures ∙ ap (vertexOf s) to)
-    ∙ sym (ap ofVert (back-inner _ _ _ _ (viewOf (b .args .d)) (b .args .k) (omega arith) (omega arith)))
+    simp (c .with-bulge .ensures, c .before .before .vertex-at2 .ensures, c .before .before .before .before .fwd-wrapping-index2 .ensures .is, w .fwd-wrapping-index .ensures .is, c .before .before .before .vertex-at .ensures, back-inner neg (double .zero) (srcOf s) (countOf s) (viewOf (b .args .d)) (b .args .k) (omega arith) (omega arith))
 
 returns-3 : tie.Need-returns-3
 returns-3 c =
     let b = c .before .before .before .before .before .before .before .before .before in
-    c .with-bulge2 .ensures
-    ∙ ap (λ (v : PlineVertex). withBulgeOf v (neg (b .args .d .«updated_start» .bulge)))
-    (c .before .before .vertex-at3 .ensures ∙ ap (vertexOf (now (b .args .source))) (c .before .before .before .fwd-wrapping-index3 .ensures .is))
-    ∙ sym (ap ofVert (back-final _ _ _ _ (viewOf (b .args .d)) (b .args .k) (omega arith) (c .before .before .before .before .if3 .taken)))
+    let s = now (b .args .source) in
+    simp (c .with-bulge2 .ensures, c .before .before .vertex-at3 .ensures, c .before .before .before .fwd-wrapping-index3 .ensures .is, back-final neg (double .zero) (srcOf s) (countOf s) (viewOf (b .args .d)) (b .args .k) (omega arith) (c .before .before .before .before .if3 .taken))
 
 returns-4 : tie.Need-returns-4
 returns-4 c =
     let b = c .before .before .before .before .before .before in
-    c .with-bulge3 .ensures ∙ sym (ap ofVert (back-past _ _ _ _ (viewOf (b .args .d)) (b .args .k) (omega arith)))
+    let s = now (b .args .source) in
+    simp (c .with-bulge3 .ensures, back-past neg (double .zero) (srcOf s) (countOf s) (viewOf (b .args .d)) (b .args .k) (omega arith))
 
 pub backward-spec : {M : Type 1} → statement M
 backward-spec =

@@ -25,31 +25,26 @@ returns-3 c =
     let b = c .before .before .before in
     simp (ne-eqb _ _ (b .before .if1 .left), le-ltb _ _ (b .if2 .left), not-true (b .before .before .before .args .d .«inverted_direction») (c .before .if3 .taken)) (c .past-in-range .ensures)
 
--- the case of an inverted view
-inverted : (c : tie.Else3) → let a = c .before .before .before .before .before .args in
-    let start = a .d .«start_index» in
-    let offset = a .d .«end_index_offset» in
-    readsOk double (now (a .source)) (a .d) (a .k)
-    ≡ (pastOk double (now (a .source)) start (offset + 1 - a .k) && (eqb (a .k) offset || pastOk double (now (a .source)) start (offset - a .k)))
-unfolding readsOk
-inverted c =
-    let b = c .before .before in
-    simp (ne-eqb _ _ (b .before .if1 .left), le-ltb _ _ (b .if2 .left), not-false (b .before .before .before .args .d .«inverted_direction») (c .if3 .left))
-
 returns-4 : tie.Need-returns-4
+unfolding readsOk
 returns-4 c =
     let p = c .before .before in
-    sym (inverted (p .before) ∙ simp (sym (p .past-in-range2 .ensures) ∙ c .before .if4 .taken, eq-eqb _ _ (c .if5 .taken)))
+    let b = p .before .before .before in
+    simp (ne-eqb _ _ (b .before .if1 .left), le-ltb _ _ (b .if2 .left), not-false (b .before .before .before .args .d .«inverted_direction») (p .before .if3 .left), sym (p .past-in-range2 .ensures) ∙ c .before .if4 .taken, eq-eqb _ _ (c .if5 .taken))
 
 returns-5 : tie.Need-returns-5
+unfolding readsOk
 returns-5 c =
     let p = c .before .before .before in
-    c .past-in-range3 .ensures ∙ sym (inverted (p .before) ∙ simp (sym (p .past-in-range2 .ensures) ∙ c .before .before .if4 .taken, ne-eqb _ _ (c .before .if5 .left)))
+    let b = p .before .before .before in
+    simp (ne-eqb _ _ (b .before .if1 .left), le-ltb _ _ (b .if2 .left), not-false (b .before .before .before .args .d .«inverted_direction») (p .before .if3 .left), sym (p .past-in-range2 .ensures) ∙ c .before .before .if4 .taken, ne-eqb _ _ (c .before .if5 .left)) (c .past-in-range3 .ensures)
 
 returns-6 : tie.Need-returns-6
+unfolding readsOk
 returns-6 c =
     let p = c .before in
-    c .if4 .left ∙ sym (inverted (p .before) ∙ simp (sym (p .past-in-range2 .ensures) ∙ c .if4 .left))
+    let b = p .before .before .before in
+    simp (ne-eqb _ _ (b .before .if1 .left), le-ltb _ _ (b .if2 .left), not-false (b .before .before .before .args .d .«inverted_direction») (p .before .if3 .left), sym (p .past-in-range2 .ensures) ∙ c .if4 .left) (c .if4 .left)
 
 pub reads-in-range-spec : {M : Type 1} → statement M
 reads-in-range-spec =

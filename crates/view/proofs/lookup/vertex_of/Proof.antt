@@ -5,28 +5,19 @@ use mathlib.Core.Bool.{Bool, cond}
 use denote.Ref.{now}
 use lib.Ieee.{neg}
 use Rattle.plane.specs.Grade.{double}
-use Rattle.plane.specs.declared.pline_vertex.PlineVertex.{PlineVertex}
 use Rattle.view.specs.View.{vertexAt, forward, backward}
 use Rattle.view.specs.Outline.{countOf, srcOf, ofVert}
 use Rattle.view.specs.Record.{viewOf}
 use Rattle.view.proofs.lookup.vertex_of.Statement.{statement}
 use Rattle.view.proofs.lookup.vertex_of.Tie as tie
 
-module _ (c : tie.Start) where
-  -- the vertex of the direction t
-  abbrev pick : Bool → PlineVertex
-  pick t =
-      let s = now (c .args .source) in
-      let r = viewOf (c .args .d) in
-      ofVert (cond t (backward neg (double .zero) (srcOf s) (countOf s) r (c .args .k)) (forward (double .zero) (srcOf s) (countOf s) r (c .args .k)))
-
 returns : tie.Need-returns
 unfolding vertexAt
-returns c = c .backward .ensures ∙ sym (ap (pick (c .before .before .before)) (c .before .if1 .taken))
+returns c = simp (c .backward .ensures, c .before .if1 .taken)
 
 returns-2 : tie.Need-returns-2
 unfolding vertexAt
-returns-2 c = c .forward .ensures ∙ sym (ap (pick (c .before .before .before)) (c .before .if1 .left))
+returns-2 c = simp (c .forward .ensures, c .before .if1 .left)
 
 pub vertex-of-spec : {M : Type 1} → statement M
 vertex-of-spec = tie.close (tie.spec (λ c κs. search needs) (λ c κs. search needs) returns returns-2)

@@ -1,7 +1,5 @@
 -- The fuzzy test is the definition's, on vertex k by its promise.
-use mathlib.Core.Path.{refl}
 use borrow.Author.Needs.{needs}
-use Rattle.real.proofs.Pick.{yes, no}
 use Rattle.view.specs.Create.{roundEnding}
 use Rattle.view.proofs.new_start.round_ending.Statement.{statement}
 use Rattle.view.proofs.new_start.round_ending.Tie as tie
@@ -10,14 +8,15 @@ returns : tie.Need-returns
 unfolding roundEnding
 returns c =
     let test = c .before .before .before in
-    yes _ (simp (test .before .pos .ensures, test .before .before .before .vertex-at .ensures) at (test .fuzzy-eq-eps .ensures)) (c .before .before .if1 .taken)
-    (simp (c .vertex-at2 .ensures, c .before .fwd-wrapping-index .ensures .is))
+    let near = simp (test .before .pos .ensures, test .before .before .before .vertex-at .ensures, test .fuzzy-eq-eps .ensures) at (c .before .before .if1 .taken) in
+    simp (near, c .vertex-at2 .ensures, c .before .fwd-wrapping-index .ensures .is)
 
 returns-2 : tie.Need-returns-2
 unfolding roundEnding
 returns-2 c =
     let test = c .before in
-    no _ (simp (test .before .pos .ensures, test .before .before .before .vertex-at .ensures) at (test .fuzzy-eq-eps .ensures)) (c .if1 .left) refl
+    let apart = simp (test .before .pos .ensures, test .before .before .before .vertex-at .ensures, test .fuzzy-eq-eps .ensures) at (c .if1 .left) in
+    simp apart
 
 pub round-ending-spec : {M : Type 1} → statement M
 round-ending-spec =

@@ -1,16 +1,8 @@
 -- The split of segment k and the ending, by their promises.
 use borrow.Author.Needs.{needs}
-use Rattle.plane.specs.Grade.{double}
 use Rattle.view.specs.Create.{roundFrom}
-use Rattle.view.proofs.Segments.{segment-in}
 use Rattle.view.proofs.new_start.round_from.Statement.{statement}
 use Rattle.view.proofs.new_start.round_from.Tie as tie
-
-split-requires : tie.Need-split-of-requires
-split-requires c κs =
-    let a = c .before .before in
-    let pre = a .before .before .pre in
-    record { segment = rw (a .vertex-at .ensures, c .vertex-at2 .ensures) (segment-in double _ (pre .numbers) _ _ (pre .index) (c .before .fwd-wrapping-index .ensures .below)); point = pre .point; tolerance = pre .tolerance }
 
 returns : tie.Need-returns
 unfolding roundFrom
@@ -18,7 +10,7 @@ returns c =
     let ending = c .before in
     let call = ending .before in
     let next = call .before in
-    simp (ending .round-ending .ensures, call .split-of .ensures, next .before .before .vertex-at .ensures, next .vertex-at2 .ensures, next .before .fwd-wrapping-index .ensures .is)
+    simp (ending .round-ending .ensures, call .split-at-point .ensures, next .before .before .vertex-at .ensures, next .vertex-at2 .ensures, next .before .fwd-wrapping-index .ensures .is)
 
 pub round-from-spec : {M : Type 1} → statement M
-round-from-spec = tie.close (tie.spec (λ c κs. search needs) (λ c κs. search needs) (λ c κs. search needs) split-requires (λ c κs. search needs) returns)
+round-from-spec = tie.close (tie.spec (λ c κs. search needs) (λ c κs. search needs) (λ c κs. search needs) (λ c κs. tt) (λ c κs. search needs) returns)

@@ -26,13 +26,13 @@ returns : tie.Need-returns Inv-loop μ-loop
 unfolding numbersOk
 returns c =
     sym (all-not _ _ (c .before .before .before .before .loop .k) (c .before .before .before .loop-test .taken)
-    (ap (vertexOk double) (sym (c .before .before .vertex-at .ensures)) ∙ failed (c .before .vertex-in-range .ensures) (c .if1 .taken)))
+    (failed (simp (c .before .before .vertex-at .ensures) at (c .before .vertex-in-range .ensures)) (c .if1 .taken)))
 
 loop-again : tie.Need-loop-again Inv-loop μ-loop
 loop-again c = (
   omega arith,
   all-more _ (c .before .before .before .before .loop .k) (c .before .before .before .before .loop .inv .1)
-      (ap (vertexOk double) (sym (c .before .before .vertex-at .ensures)) ∙ passed (c .before .vertex-in-range .ensures) (c .if1 .left)),
+      (passed (simp (c .before .before .vertex-at .ensures) at (c .before .vertex-in-range .ensures)) (c .if1 .left)),
 )
 
 returns-2 : tie.Need-returns-2 Inv-loop μ-loop

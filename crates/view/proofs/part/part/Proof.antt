@@ -11,16 +11,7 @@ returns : tie.Need-returns
 unfolding part
 returns c =
     let b = c .before .before .before .before in
-    let a = b .before .before .args in
-    λ t.
-    record {
-      «start_index» = b .fwd-wrapping-index .ensures .is t;
-      «end_index_offset» = a .b - a .a - 1;
-      «updated_start» = c .before .before .before .forward .ensures t;
-      «updated_end_bulge» = c .before .before .forward2 .ensures t .bulge;
-      «end_point» = (c .pos .ensures ∙ ap posOf (c .before .forward3 .ensures)) t;
-      «inverted_direction» = a .d .«inverted_direction»;
-    }
+    simp (b .fwd-wrapping-index .ensures .is, c .before .before .before .forward .ensures, c .before .before .forward2 .ensures, c .before .forward3 .ensures, c .pos .ensures)
 
 pub part-spec : {M : Type 1} → statement M
 part-spec =

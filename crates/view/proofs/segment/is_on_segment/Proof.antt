@@ -1,5 +1,4 @@
 -- An end, or the closest point, by their promises.
-use borrow.Author.Needs.{needs}
 use Rattle.real.proofs.Pick.{picks}
 use Rattle.view.specs.Segment.{onSegmentOf}
 use Rattle.view.proofs.segment.is_on_segment.Statement.{statement}
@@ -7,4 +6,4 @@ use Rattle.view.proofs.segment.is_on_segment.Tie as tie
 
 pub is-on-segment-spec : {M : Type 1} → statement M
 unfolding onSegmentOf
-is-on-segment-spec = tie.close (tie.spec (λ c κs. tt) (λ c κs. search needs) (λ c. search picks) (λ c. search picks))
+is-on-segment-spec = tie.close (tie.spec (λ c κs. tt) (λ c κs. tt) (λ c. search picks) (λ c. search picks))

@@ -1,17 +1,8 @@
 -- Segment k's two vertices by their promises; all of the outline's are in range.
 use borrow.Author.Needs.{needs}
-use Rattle.plane.specs.Grade.{double}
 use Rattle.view.specs.Segment.{onOutline}
-use Rattle.view.proofs.Segments.{segment-in}
 use Rattle.view.proofs.segment.point_is_on_segment.Statement.{statement}
 use Rattle.view.proofs.segment.point_is_on_segment.Tie as tie
-
-is-on-segment-requires : tie.Need-is-on-segment-requires
-is-on-segment-requires c κs =
-    let a = c .before .before in
-    let pre = a .before .before .pre in
-    let next = c .before .fwd-wrapping-index .ensures in
-    record { segment = rw (a .vertex-at .ensures, c .vertex-at2 .ensures) (segment-in double _ (pre .numbers) _ _ (pre .index) (next .below)); point = pre .point }
 
 returns : tie.Need-returns
 unfolding onOutline
@@ -20,4 +11,4 @@ returns c =
     simp (a .vertex-at .ensures, c .before .vertex-at2 .ensures, c .before .before .fwd-wrapping-index .ensures .is) at (c .is-on-segment .ensures)
 
 pub point-is-on-segment-spec : {M : Type 1} → statement M
-point-is-on-segment-spec = tie.close (tie.spec (λ c κs. search needs) (λ c κs. search needs) (λ c κs. search needs) is-on-segment-requires returns)
+point-is-on-segment-spec = tie.close (tie.spec (λ c κs. search needs) (λ c κs. search needs) (λ c κs. search needs) (λ c κs. tt) returns)

@@ -1,7 +1,7 @@
 -- The guards are the definition's tests, in its order; past them the view goes round from the segment that `move_on` finds.
 use mathlib.Core.Path.{refl}
 use borrow.Author.Tests.{lt-ltb, le-ltb}
-use Rattle.real.proofs.Pick.{picks, good, bad, passed, given-is}
+use Rattle.real.proofs.Pick.{picks, good, bad, passed}
 use denote.Ref.{now}
 use Rattle.plane.specs.Grade.{double}
 use Rattle.view.specs.Outline.{numbersOk}
@@ -66,7 +66,7 @@ returns-6 c =
     (good _ (past2 .before .outline-and-point-in-range .ensures) (past2 .if2 .left)
     (good _ (past3 .before .tol-in-range .ensures) (past3 .if3 .left)
     (good {t = past1 .before .before .before .args .closed} _ refl (past4 .if4 .left)
-    (simp (lt-ltb _ _ (past5 .if5 .left)) (given-is (rw (c .before .move-on .ensures .is) at (c .round-from .ensures)))))))
+    (simp (lt-ltb _ _ (past5 .if5 .left)) (simp (c .before .move-on .ensures .is, c .round-from .ensures))))))
 
 pub from-new-start-spec : {M : Type 1} → statement M
 unfolding newStartOf

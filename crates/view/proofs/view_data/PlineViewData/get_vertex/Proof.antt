@@ -8,7 +8,7 @@ use borrow.Author.Tests.{lt-ltb, le-ltb}
 use denote.Ref.{now}
 use Rattle.real.specs.Refusal.{badNumber, badIndex}
 use Rattle.real.specs.Reply.{given, check}
-use Rattle.real.proofs.Pick.{bad, good, given-is, passed}
+use Rattle.real.proofs.Pick.{bad, good, passed}
 use Rattle.plane.specs.Grade.{double}
 use Rattle.view.specs.Record.{vertices, vertexAtOf, recordOk, readsOk}
 use Rattle.view.specs.Needs.{Placed, PlacedAt}
@@ -59,7 +59,7 @@ returns-4 c = bad _ (c .before .lookup-in-range .ensures) (c .if3 .taken) refl �
 returns-5 : tie.Need-returns-5
 returns-5 c =
     let b = c .before in
-    good _ (b .before .lookup-in-range .ensures) (b .if3 .left) (given-is (c .vertex-of .ensures)) ∙ last (b .before .before)
+    good _ (b .before .lookup-in-range .ensures) (b .if3 .left) (rw (c .vertex-of .ensures)) ∙ last (b .before .before)
 
 pub get-vertex-spec : {M : Type 1} → statement M
 get-vertex-spec =

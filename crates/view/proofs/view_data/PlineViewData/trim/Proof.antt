@@ -62,11 +62,11 @@ returns-4 c = simp (lt-ltb _ _ (c .before .if2 .left), le-ltb _ _ (c .if3 .taken
 
 returns-5 : tie.Need-returns-5
 unfolding turned
-returns-5 c = ap given (c .part .ensures) ∙ sym (ap (turned (c .before .before)) (c .before .if4 .taken)) ∙ answer (c .before .before)
+returns-5 c = rw (c .part .ensures) (sym (ap (turned (c .before .before)) (c .before .if4 .taken)) ∙ answer (c .before .before))
 
 returns-6 : tie.Need-returns-6
 unfolding turned
-returns-6 c = ap given (c .part2 .ensures) ∙ sym (ap (turned (c .before .before)) (c .before .if4 .left)) ∙ answer (c .before .before)
+returns-6 c = rw (c .part2 .ensures) (sym (ap (turned (c .before .before)) (c .before .if4 .left)) ∙ answer (c .before .before))
 
 pub trim-spec : {M : Type 1} → statement M
 trim-spec =
