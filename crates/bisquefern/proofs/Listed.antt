@@ -11,13 +11,13 @@ use borrow.Author.Tests.{leb-true, leb-false, lt-leb}
 use Rattle.real.specs.Refusal.{badNumber, badOutline, badIndex, badOffset, noRoom}
 use Rattle.real.specs.Reply.{Reply, refused, given, check}
 use Rattle.plane.specs.Grade.{double}
-use Rattle.view.specs.Plain.{flat}
+use Rattle.lists.specs.Plain.{flat}
 use Rattle.view.specs.Outline.{countOf, viewable, numbersOk}
 use Rattle.view.specs.Record.{listed, needed, vertices, recordOk}
 use Rattle.view.specs.Check.{placeOf, checkOf}
 use Rattle.view.specs.Answers.{vertexCountOf, listOf, listBuffer, bufferAfter, written}
 use Rattle.view.specs.declared.view_data.PlineViewData.{PlineViewData}
-use Rattle.view.proofs.Tab.{length-flat}
+use Rattle.lists.proofs.Tab.{length-flat}
 use Rattle.view.proofs.Shape.{list-count}
 use Rattle.bisquefern.specs.Lent.{andThen, codeOf, heldBy, lent, lentBoth, itself, one, both, Answered, BothAnswered}
 use Rattle.bisquefern.specs.View.{listReply}

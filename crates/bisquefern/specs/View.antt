@@ -10,7 +10,7 @@ use Rattle.real.specs.Reply.{Reply, given, check}
 use Rattle.plane.specs.Grade.{double}
 use Rattle.plane.specs.Vertex.{vertexAt}
 use Rattle.plane.specs.declared.pline_vertex.PlineVertex.{PlineVertex}
-use Rattle.view.specs.Plain.{flat}
+use Rattle.lists.specs.Plain.{flat}
 use Rattle.view.specs.Record.{listed}
 use Rattle.view.specs.Answers.{vertexCountOf}
 use Rattle.view.specs.Validation.{Verdict, MarkCase, cut, hold}

@@ -10,7 +10,7 @@ use Rattle.plane.specs.Grade.{double}
 use Rattle.plane.specs.Range.{vertexOk, segOk}
 use Rattle.plane.specs.declared.pline_vertex.PlineVertex.{PlineVertex}
 use Rattle.seg.proofs.Laws.{box-given, fast-box-given}
-use Rattle.view.specs.View.{wrapped}
+use Rattle.lists.specs.View.{wrapped}
 use Rattle.view.proofs.All.{all-each}
 use Rattle.job.specs.Outline.{vertexIn}
 use Rattle.job.specs.Extent.{boxAnswer, boxFor, Sound}

@@ -6,8 +6,8 @@ use Rattle.plane.specs.Range.{wholeOutline, coordOk, bulgeOk, pointOk, vertexOk
 use Rattle.seg.specs.Arc.{radiusOf, centerOf}
 use Rattle.seg.specs.Closest.{arcClosest, closestOf}
 use Rattle.seg.specs.Bounds.{startRadius, endRadius, arcBoxBy, arcBox, boxOf}
-use Rattle.view.specs.Plain.{tab}
-use Rattle.view.specs.View.{forward, vertexAt, viewList}
+use Rattle.lists.specs.Plain.{tab}
+use Rattle.lists.specs.View.{forward, vertexAt, viewList}
 use Rattle.view.specs.Outline.{all, numbersOk}
 use Rattle.view.specs.Record.{recordOk}
 use Rattle.view.specs.Segment.{onSegmentOf, onOutline}

@@ -4,8 +4,8 @@ use mathlib.Core.List.{List, _∷_, _++_}
 use Prim.Native.Nat.{ℕ, suc, _<_}
 use lib.ListN.{length, drop, set, getD}
 use lib.Seq.{set-at, drop-cons, append-snoc}
-use Rattle.view.specs.Plain.{tab}
-use Rattle.view.proofs.Tab.{length-tab, tab-suc}
+use Rattle.lists.specs.Plain.{tab}
+use Rattle.lists.proofs.Tab.{length-tab, tab-suc}
 
 pub fill-next : {B : Type 0} (f : ℕ → B) (l : List B) (i : ℕ) (v : B) → i < length l → v ≡ f i → set (tab f i ++ drop i l) i v ≡ tab f (suc i) ++ drop (suc i) l
 fill-next {B} f l i v h e =

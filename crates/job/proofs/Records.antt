@@ -13,10 +13,10 @@ use lib.Ieee.Bits.{ofBits-toBits, toBits-ofBits, toBits-lt}
 use borrow.Author.Tests.{leb-true, eqb-true}
 use Rattle.real.specs.Refusal.{badSheet, badRecord}
 use Rattle.real.specs.Reply.{given}
-use Rattle.view.specs.Plain.{tab}
+use Rattle.lists.specs.Plain.{tab}
 use Rattle.view.specs.declared.view_data.PlineViewData.{PlineViewData}
 use Rattle.view.proofs.All.{and-both}
-use Rattle.view.proofs.Tab.{length-tab, getD-tab}
+use Rattle.lists.proofs.Tab.{length-tab, getD-tab}
 use Rattle.job.specs.Bytes.{le16, le32, le64, floatAt, bytes4, bytes8, floatBytes}
 use Rattle.job.specs.Record.{recordOf, recordOk, recordFrom, vertexBytes, pointBytes, placeBytes, directionOf, endBytes, recordBytes}
 use Rattle.job.specs.RoundTrip.{Fits, Plain}

@@ -13,7 +13,7 @@ use Rattle.plane.specs.Grade.{double}
 use Rattle.plane.specs.Range.{vertexOk}
 use Rattle.view.specs.Outline.{all}
 use Rattle.view.specs.Answers.{bufferAfter}
-use Rattle.view.proofs.Tab.{length-tab}
+use Rattle.lists.proofs.Tab.{length-tab}
 use Rattle.job.specs.declared.header.Header.{Header}
 use Rattle.job.specs.declared.sheet.Opened.{Opened}
 use Rattle.job.specs.Header.{headerOf, headerOk, Headed}

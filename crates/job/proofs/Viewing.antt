@@ -9,8 +9,8 @@ use lib.ListN.{length, drop}
 use lib.Ieee.{Float, neg}
 use Rattle.real.specs.Reply.{Reply, refused, given}
 use Rattle.plane.specs.Grade.{double}
-use Rattle.view.specs.Plain.{Vert, tab, flat}
-use Rattle.view.specs.View.{vertexAt, viewList}
+use Rattle.lists.specs.Plain.{Vert, tab, flat}
+use Rattle.lists.specs.View.{vertexAt, viewList}
 use Rattle.view.specs.Outline.{countOf, srcOf}
 use Rattle.view.specs.Record.{viewOf, vertices, needed, listed}
 use Rattle.view.specs.Answers.{written, listBuffer, bufferAfter}

@@ -13,7 +13,7 @@ use Rattle.plane.specs.declared.pline_vertex.PlineVertex.{PlineVertex}
 use Rattle.seg.specs.Bounds as seg
 use Rattle.seg.specs.declared.bounds.Bounds.{Bounds}
 use Rattle.seg.specs.declared.bounds.BoxAnswer.{BoxAnswer}
-use Rattle.view.specs.View.{wrapped}
+use Rattle.lists.specs.View.{wrapped}
 use Rattle.view.specs.Outline.{all}
 use Rattle.job.specs.Outline.{vertexIn}
 

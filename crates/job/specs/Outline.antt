@@ -4,7 +4,7 @@ use mathlib.Core.List.{List}
 use lib.Ieee.{Float}
 use Rattle.plane.specs.Vertex.{vertexAt}
 use Rattle.plane.specs.declared.pline_vertex.PlineVertex.{PlineVertex}
-use Rattle.view.specs.Plain.{tab}
+use Rattle.lists.specs.Plain.{tab}
 use Rattle.job.specs.Bytes.{floatAt}
 
 -- vertex k, and the first n numbers

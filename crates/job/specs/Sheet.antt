@@ -8,7 +8,7 @@ use Rattle.real.specs.Refusal.{badNumber, badSheet, badRecord}
 use Rattle.real.specs.Reply.{Reply, refused, given, check}
 use Rattle.plane.specs.Grade.{double}
 use Rattle.plane.specs.Range.{mostVertices, vertexOk}
-use Rattle.view.specs.Plain.{tab}
+use Rattle.lists.specs.Plain.{tab}
 use Rattle.view.specs.Outline.{all}
 use Rattle.view.specs.Answers.{bufferAfter}
 use Rattle.view.specs.declared.view_data.PlineViewData.{PlineViewData}

@@ -4,7 +4,7 @@ use mathlib.Core.Bool.{cond}
 use mathlib.Core.List.{List, [], _∷_, _++_}
 use lib.Dec.{ltb}
 use lib.Ieee.{Float, toBits, binary64}
-use Rattle.view.specs.Plain.{Vert}
+use Rattle.lists.specs.Plain.{Vert}
 use Rattle.view.specs.Outline.{srcOf}
 use Rattle.job.specs.Ascii.{ascii}
 

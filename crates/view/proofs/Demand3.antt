@@ -15,8 +15,8 @@ use Rattle.real.specs.Reply.{given, check}
 use Rattle.plane.specs.Grade.{Grade}
 use Rattle.plane.specs.Range.{coordOk, bulgeOk, pointOk, vertexOk}
 use Rattle.plane.specs.declared.pline_vertex.PlineVertex.{PlineVertex}
-use Rattle.view.specs.Plain.{Vert, Step, turn, trim, stepList, rowList}
-use Rattle.view.specs.View.{turnView, trimView}
+use Rattle.lists.specs.Plain.{Vert, Step, turn, trim, stepList, rowList}
+use Rattle.lists.specs.View.{turnView, trimView}
 use Rattle.view.specs.Outline.{countOf, vertexOf, vertOf, srcOf, numbersOk}
 use Rattle.view.specs.Record.{viewOf, dataOf, vertices, needed, evenBits, listed, recordOk}
 use Rattle.view.specs.Answers.{listOf, listBuffer, bufferAfter, written, reverseOf, trimOf}
@@ -25,9 +25,9 @@ use Rattle.view.specs.Demand3.{Unrefused, SameBits, Even, Lists, Kept, D
 use Rattle.view.specs.declared.view_data.PlineViewData.{PlineViewData}
 use Rattle.view.proofs.All.{and-both, all-each}
 use Rattle.view.proofs.Checks.{Checked, checked, checked-rest}
-use Rattle.view.proofs.Lists.{plain-steps}
-use Rattle.view.proofs.Good.{InRange, Good, turn-good, trim-good}
-use Rattle.view.proofs.Listing.{list-turn, list-trim, turn-twice, trim-after-turn, length-list}
+use Rattle.lists.proofs.Lists.{plain-steps}
+use Rattle.lists.proofs.Good.{InRange, Good, turn-good, trim-good}
+use Rattle.lists.proofs.Listing.{list-turn, list-trim, turn-twice, trim-after-turn, length-list}
 
 neg-neg : (x : Float) → neg (neg x) ≡ x
 unfolding neg

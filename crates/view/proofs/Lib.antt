@@ -1,11 +1,5 @@
 -- Laws of plain lists and of views over any numbers, of the checks and the segments, and the theorems: Lists, Demand3, Replies, Shape, Made, Cut, Table.
-pub mod Tab
 pub mod All
-pub mod Steps
-pub mod Lists
-pub mod Views
-pub mod Good
-pub mod Listing
 pub mod Checks
 pub mod Demand3
 pub mod Replies

@@ -12,17 +12,17 @@ use borrow.Author.Tests.{lt-ltb}
 use Rattle.real.specs.Reply.{given}
 use Rattle.plane.specs.Grade.{Grade}
 use Rattle.plane.specs.Range.{vertexOk}
-use Rattle.view.specs.Plain.{Vert, at}
-use Rattle.view.specs.View.{viewList}
+use Rattle.lists.specs.Plain.{Vert, at}
+use Rattle.lists.specs.View.{viewList}
 use Rattle.view.specs.Outline.{vertexOf, countOf, ofVert, srcOf, numbersOk}
 use Rattle.view.specs.Record.{viewOf, vertices, listed, pastOk, readsOk}
 use Rattle.view.specs.Needs.{Placed}
 use Rattle.view.specs.Answers.{getVertexOf}
 use Rattle.view.specs.declared.view_data.PlineViewData.{PlineViewData}
-use Rattle.view.proofs.Tab.{getD-tab}
+use Rattle.lists.proofs.Tab.{getD-tab}
 use Rattle.view.proofs.All.{all-each}
 use Rattle.view.proofs.Checks.{Checked, place-rest}
-use Rattle.view.proofs.Listing.{length-list, ends-in-zero}
+use Rattle.lists.proofs.Listing.{length-list, ends-in-zero}
 
 module _ (g : Grade) (s : List Float) (d : PlineViewData) where
   pub list-count : length (listed g s d) ≡ d .«end_index_offset» + 2

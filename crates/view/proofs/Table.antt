@@ -11,8 +11,8 @@ use Rattle.seg.proofs.Table.{segment-table}
 use Rattle.view.specs.Segment.{onSegmentOf, onOutline}
 use Rattle.view.specs.Validation.{bulgesMatch, endVerdict, placedVerdict, countedVerdict, validateOf}
 use Rattle.view.specs.Table.{Table}
-use Rattle.view.specs.Plain.{Vert, tab, Step, turn, trim, turnAt, trimAt, turnList, trimList, stepList, rowList}
-use Rattle.view.specs.View.{forward, vertexAt, viewList}
+use Rattle.lists.specs.Plain.{Vert, tab, Step, turn, trim, turnAt, trimAt, turnList, trimList, stepList, rowList}
+use Rattle.lists.specs.View.{forward, vertexAt, viewList}
 use Rattle.view.specs.Outline.{viewable, all, numbersOk}
 use Rattle.view.specs.Record.{listed, recordOk}
 use Rattle.view.specs.Check.{placeOf, checkOf}

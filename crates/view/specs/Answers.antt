@@ -9,8 +9,8 @@ use Rattle.real.specs.Refusal.{badNumber, badOutline, badIndex, unevenBulges, n
 use Rattle.real.specs.Reply.{Reply, refused, given, check}
 use Rattle.plane.specs.Grade.{Grade}
 use Rattle.plane.specs.declared.pline_vertex.PlineVertex.{PlineVertex}
-use Rattle.view.specs.Plain.{flat}
-use Rattle.view.specs.View.{turnView, trimView}
+use Rattle.lists.specs.Plain.{flat}
+use Rattle.lists.specs.View.{turnView, trimView}
 use Rattle.view.specs.Outline.{countOf, srcOf, viewable}
 use Rattle.view.specs.Record.{viewOf, dataOf, vertices, needed, evenBits, vertexAtOf, listed, recordOk, readsOk}
 use Rattle.view.specs.Check.{placeOf, checkOf}

@@ -7,7 +7,7 @@ use Rattle.plane.specs.Grade.{Grade, double}
 use Rattle.plane.specs.Vertex.{vertexAt}
 use Rattle.plane.specs.declared.vector2.Vector2.{Vector2}
 use Rattle.seg.specs.Cases.{half, vec}
-use Rattle.view.specs.Plain.{Vert}
+use Rattle.lists.specs.Plain.{Vert}
 use Rattle.view.specs.declared.view_data.PlineViewData.{PlineViewData}
 open Grade double using (zero, one, two, four)
 

@@ -9,7 +9,7 @@ use Rattle.plane.specs.Grade.{Grade}
 use Rattle.plane.specs.Vec.{vnearOf}
 use Rattle.plane.specs.Vertex.{posOf}
 use Rattle.plane.specs.Range.{wholeOutline}
-use Rattle.view.specs.View.{wrapped}
+use Rattle.lists.specs.View.{wrapped}
 use Rattle.view.specs.Outline.{vertexOf, countOf, numbersOk}
 use Rattle.view.specs.Record.{recordOk}
 use Rattle.view.specs.Segment.{onOutline}

@@ -9,7 +9,7 @@ use lib.Ieee.{Float, neg, toBits, fits}
 use Rattle.real.specs.Refusal.{badTrim}
 use Rattle.real.specs.Reply.{refused, given}
 use Rattle.plane.specs.Grade.{Grade}
-use Rattle.view.specs.Plain.{Vert, Step, turn, trim, flat, rowList, PlainSteps}
+use Rattle.lists.specs.Plain.{Vert, Step, turn, trim, flat, rowList, PlainSteps}
 use Rattle.view.specs.Record.{listed}
 use Rattle.view.specs.Answers.{listOf, listBuffer, reverseOf, trimOf}
 use Rattle.view.specs.Rows.{step, row}

@@ -1,5 +1,3 @@
-pub mod Plain
-pub mod View
 pub mod Outline
 pub mod Record
 pub mod Segment

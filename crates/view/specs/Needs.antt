@@ -8,7 +8,7 @@ use mathlib.Core.Bool.{true, _&&_}
 use Rattle.plane.specs.Grade.{Grade}
 use Rattle.plane.specs.Range.{mostVertices, wholeOutline, tolOk, pointOk}
 use Rattle.plane.specs.declared.vector2.Vector2.{Vector2}
-use Rattle.view.specs.View.{wrapped}
+use Rattle.lists.specs.View.{wrapped}
 use Rattle.view.specs.Outline.{countOf, numbersOk}
 use Rattle.view.specs.Record.{vertices, needed, recordOk}
 use Rattle.view.specs.declared.view_data.PlineViewData.{PlineViewData}

@@ -9,7 +9,7 @@ use Rattle.plane.specs.Grade.{Grade}
 use Rattle.plane.specs.Range.{wholeOutline, vertexOk}
 use Rattle.plane.specs.Vertex.{vertexAt}
 use Rattle.plane.specs.declared.pline_vertex.PlineVertex.{PlineVertex}
-use Rattle.view.specs.Plain.{Vert}
+use Rattle.lists.specs.Plain.{Vert}
 
 -- vertex k of an outline, and how many it has
 abbrev pub vertexOf : List Float → ℕ → PlineVertex

@@ -7,8 +7,8 @@ use lib.Ieee.{Float, neg, toBits}
 use Rattle.plane.specs.Grade.{Grade}
 use Rattle.plane.specs.Range.{bulgeOk, pointOk, vertexOk}
 use Rattle.plane.specs.declared.pline_vertex.PlineVertex.{PlineVertex}
-use Rattle.view.specs.Plain.{Vert}
-use Rattle.view.specs.View.{View, wrapped, forward, backward, vertexAt, viewList, part}
+use Rattle.lists.specs.Plain.{Vert}
+use Rattle.lists.specs.View.{View, wrapped, forward, backward, vertexAt, viewList, part}
 use Rattle.view.specs.Outline.{vertexOf, countOf, vertOf, ofVert, srcOf}
 use Rattle.view.specs.declared.view_data.PlineViewData.{PlineViewData}
 

@@ -3,7 +3,7 @@ use mathlib.Core.List.{List, [], _∷_}
 use lib.Ieee.{Float}
 use Rattle.real.specs.Reply.{Reply, refused, given}
 use Rattle.plane.specs.Grade.{Grade}
-use Rattle.view.specs.Plain.{Step, turn, trim}
+use Rattle.lists.specs.Plain.{Step, turn, trim}
 use Rattle.view.specs.Answers.{reverseOf, trimOf}
 use Rattle.view.specs.declared.view_data.PlineViewData.{PlineViewData}
 

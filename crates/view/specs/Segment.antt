@@ -11,7 +11,7 @@ use Rattle.plane.specs.Range.{mostVertices, tolOk, pointOk, segOk}
 use Rattle.plane.specs.declared.vector2.Vector2.{Vector2}
 use Rattle.plane.specs.declared.pline_vertex.PlineVertex.{PlineVertex}
 use Rattle.seg.specs.Closest.{closestOf}
-use Rattle.view.specs.View.{wrapped}
+use Rattle.lists.specs.View.{wrapped}
 use Rattle.view.specs.Outline.{vertexOf, countOf, numbersOk}
 
 module _ (g : Grade) where

@@ -6,7 +6,7 @@ use Rattle.plane.specs.Grade.{Grade, double}
 use Rattle.plane.specs.Vertex.{vertexAt}
 use Rattle.seg.specs.Cases.{half, minusHalf, minusZero, vec}
 use Rattle.seg.specs.Table.{SegmentTable}
-use Rattle.view.specs.Plain.{turn, trim}
+use Rattle.lists.specs.Plain.{turn, trim}
 use Rattle.view.specs.Rows.{row}
 use Rattle.view.specs.Demand3.{Lists}
 use Rattle.view.specs.Validation.{offsetOut, endOff, endOnVertex, validateOf}

@@ -13,7 +13,7 @@ use Rattle.plane.specs.Vertex.{posOf}
 use Rattle.plane.specs.Range.{wholeOutline}
 use Rattle.plane.specs.declared.vector2.Vector2.{Vector2}
 use Rattle.plane.specs.declared.pline_vertex.PlineVertex.{PlineVertex}
-use Rattle.view.specs.View.{wrapped}
+use Rattle.lists.specs.View.{wrapped}
 use Rattle.view.specs.Outline.{vertexOf, countOf, numbersOk}
 use Rattle.view.specs.Record.{recordOk}
 use Rattle.view.specs.Segment.{onOutline}

@@ -7,14 +7,11 @@ mod lookup;
 mod new_start;
 mod outline;
 mod part;
-mod pline_view;
 mod segment;
 mod validate;
 mod validation;
 mod view_data;
 
-pub use pline_view::PlineView;
-pub use pline_view::vertex_through_view;
 pub use validation::Mark;
 pub use validation::MarkAnswer;
 pub use validation::ValidationAnswer;

@@ -7,7 +7,7 @@ ghost use Prim.Native.Nat.{_+_, _*_, _<_};
 ghost use lib.ListN.{length};
 ghost use lib.Seq.{sets};
 ghost use Rattle.plane.specs.Grade.{double};
-ghost use Rattle.view.specs.Plain.{numbers};
+ghost use Rattle.lists.specs.Plain.{numbers};
 ghost use Rattle.view.specs.Outline.{vertOf};
 ghost use Rattle.view.specs.Needs.{Room};
 ghost use Rattle.view.specs.Answers.{written};

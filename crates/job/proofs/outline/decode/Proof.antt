@@ -7,7 +7,7 @@ use native.Mathlib.Numerals.{add-one}
 use lib.ListN.{length, drop, set, length-set}
 use lib.Ieee.{Float}
 use denote.Ref.{now}
-use Rattle.view.specs.Plain.{tab}
+use Rattle.lists.specs.Plain.{tab}
 use Rattle.job.specs.Bytes.{floatAt}
 use Rattle.job.specs.Outline.{numbersIn}
 use Rattle.job.proofs.Fill.{fill-next}

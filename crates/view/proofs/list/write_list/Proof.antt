@@ -9,13 +9,13 @@ use denote.Ref.{now}
 use lib.ListN.{length, drop}
 use lib.Ieee.{Float, neg}
 use Rattle.plane.specs.Grade.{double}
-use Rattle.view.specs.Plain.{Vert, tab, flat}
-use Rattle.view.specs.View.{vertexAt, viewList}
+use Rattle.lists.specs.Plain.{Vert, tab, flat}
+use Rattle.lists.specs.View.{vertexAt, viewList}
 use Rattle.view.specs.Outline.{countOf, srcOf}
 use Rattle.view.specs.Record.{viewOf, vertices}
 use Rattle.view.specs.Answers.{written}
 use Rattle.view.specs.declared.view_data.PlineViewData.{PlineViewData}
-use Rattle.view.proofs.Tab.{flat-put}
+use Rattle.lists.proofs.Tab.{flat-put}
 use Rattle.view.proofs.list.write_list.Statement.{statement}
 use Rattle.view.proofs.list.write_list.Tie as tie
 

@@ -8,7 +8,7 @@ use lib.Ieee.{neg}
 use Rattle.plane.specs.Grade.{double}
 use Rattle.view.specs.Outline.{srcOf, countOf}
 use Rattle.view.specs.Record.{viewOf}
-use Rattle.view.proofs.Views.{back-first, back-inner, back-final, back-past}
+use Rattle.lists.proofs.Views.{back-first, back-inner, back-final, back-past}
 use Rattle.view.proofs.lookup.backward.Statement.{statement}
 use Rattle.view.proofs.lookup.backward.Tie as tie
 

@@ -7,7 +7,7 @@ use denote.Ref.{now}
 use Rattle.plane.specs.Grade.{double}
 use Rattle.view.specs.Outline.{srcOf, countOf}
 use Rattle.view.specs.Record.{viewOf}
-use Rattle.view.proofs.Views.{at-first, at-inner, at-final, at-past}
+use Rattle.lists.proofs.Views.{at-first, at-inner, at-final, at-past}
 use Rattle.view.proofs.lookup.forward.Statement.{statement}
 use Rattle.view.proofs.lookup.forward.Tie as tie
 

@@ -5,7 +5,7 @@ use mathlib.Core.Bool.{Bool, cond}
 use denote.Ref.{now}
 use lib.Ieee.{neg}
 use Rattle.plane.specs.Grade.{double}
-use Rattle.view.specs.View.{vertexAt, forward, backward}
+use Rattle.lists.specs.View.{vertexAt, forward, backward}
 use Rattle.view.specs.Outline.{countOf, srcOf, ofVert}
 use Rattle.view.specs.Record.{viewOf}
 use Rattle.view.proofs.lookup.vertex_of.Statement.{statement}

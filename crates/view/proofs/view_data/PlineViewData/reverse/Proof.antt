@@ -4,7 +4,7 @@ use borrow.Author.Needs.{needs}
 use denote.Ref.{now}
 use Rattle.real.proofs.Pick.{bad, good}
 use Rattle.plane.specs.Grade.{double}
-use Rattle.view.specs.View.{turnView}
+use Rattle.lists.specs.View.{turnView}
 use Rattle.view.specs.Check.{checkReply}
 use Rattle.view.specs.Answers.{reverseOf}
 use Rattle.view.proofs.Checks.{Checked, checked, checked-rest, checked-refused}

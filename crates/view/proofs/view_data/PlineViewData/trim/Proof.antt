@@ -11,7 +11,7 @@ use Rattle.real.specs.Refusal.{badTrim}
 use Rattle.real.specs.Reply.{Reply, given, check}
 use Rattle.real.proofs.Pick.{bad, good}
 use Rattle.plane.specs.Grade.{double}
-use Rattle.view.specs.View.{trimView}
+use Rattle.lists.specs.View.{trimView}
 use Rattle.view.specs.Outline.{srcOf, countOf}
 use Rattle.view.specs.Record.{viewOf, dataOf, vertices, partOf}
 use Rattle.view.specs.Check.{checkReply}

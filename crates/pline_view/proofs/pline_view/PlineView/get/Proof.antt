@@ -47,22 +47,22 @@ use Rattle.plane.specs.Grade.{double}
 use Rattle.plane.specs.From.{vertexReply}
 use Rattle.plane.specs.declared.pline_vertex.PlineVertex.{PlineVertex}
 use Rattle.plane.specs.declared.pline_vertex.VertexAnswer.{VertexAnswer}
 use Rattle.view.specs.Answers.{getVertexOf}
-use Rattle.view.specs.declared.pline_view.PlineView.{PlineView}
-use Rattle.view.proofs.pline_view.PlineView as T
-use Rattle.view.proofs.pline_view.PlineView.Laws as T′
+use Rattle.pline_view.specs.declared.pline_view.PlineView.{PlineView}
+use Rattle.pline_view.proofs.pline_view.PlineView as T
+use Rattle.pline_view.proofs.pline_view.PlineView.Laws as T′
 use Rattle.view.proofs.view_data.PlineViewData as D₀
 use Rattle.view.proofs.view_data.PlineViewData.Laws as D₀′
 use Rattle.plane.proofs.pline_vertex.VertexAnswer as S
 use Rattle.plane.proofs.pline_vertex.VertexAnswer.Laws as S′
 use Rattle.view.proofs.view_data.PlineViewData.get_vertex as got
 use Rattle.view.proofs.view_data.PlineViewData.get_vertex.Symbol as got-def
 use Rattle.view.proofs.view_data.PlineViewData.get_vertex.Symbol.{name as #get-vertex}
 use Rattle.view.proofs.view_data.PlineViewData.get_vertex.Met as got-thm
-use Rattle.view.proofs.pline_view.PlineView.get.Key.{name as #get}
-use Rattle.view.proofs.pline_view.PlineView.get as this
-use Rattle.view.proofs.pline_view.PlineView.get.Statement as stated
-use Rattle.view.proofs.pline_view.PlineView.get.Code as code
+use Rattle.pline_view.proofs.pline_view.PlineView.get.Key.{name as #get}
+use Rattle.pline_view.proofs.pline_view.PlineView.get as this
+use Rattle.pline_view.proofs.pline_view.PlineView.get.Statement as stated
+use Rattle.pline_view.proofs.pline_view.PlineView.get.Code as code
 
 -- the struct's type, over the signature's lifetimes
 abbrev B : Lfts 1 → RattleType

@@ -33,16 +33,16 @@ use denote.Triple.Spec.{Meets, tripleOf}
 use denote.Triple.Table.{entered}
 use denote.Triple.Walked.{says, Stays, stay-none-slice, stay-none, goes-none, walkOf, goes-none-slice, Walks, ends-at, walked, walk-meets}
 use denote.Exit.{yes}
-use Rattle.view.specs.declared.pline_view.PlineView.{PlineView}
+use Rattle.pline_view.specs.declared.pline_view.PlineView.{PlineView}
 use Rattle.view.specs.declared.view_data.PlineViewData.{PlineViewData}
 use Rattle.view.proofs.view_data.PlineViewData as D₀
 use Rattle.view.proofs.view_data.PlineViewData.Laws as D₀′
-use Rattle.view.proofs.pline_view.PlineView as T
-use Rattle.view.proofs.pline_view.PlineView.Laws as T′
-use Rattle.view.proofs.pline_view.PlineView.new.Key.{name as #new}
-use Rattle.view.proofs.pline_view.PlineView.new as new
-use Rattle.view.proofs.pline_view.PlineView.new.Statement as stated
-use Rattle.view.proofs.pline_view.PlineView.new.Code as code
+use Rattle.pline_view.proofs.pline_view.PlineView as T
+use Rattle.pline_view.proofs.pline_view.PlineView.Laws as T′
+use Rattle.pline_view.proofs.pline_view.PlineView.new.Key.{name as #new}
+use Rattle.pline_view.proofs.pline_view.PlineView.new as new
+use Rattle.pline_view.proofs.pline_view.PlineView.new.Statement as stated
+use Rattle.pline_view.proofs.pline_view.PlineView.new.Code as code
 
 abbrev stayed : Stays (new.ended .signature .params) (new.ended .kept)
 stayed = (stay-none-slice (0 ∷ []) tt (plain (λ _. f64)) yes, (stay-none (λ _. D₀.the-row) yes, tt))

@@ -43,23 +43,23 @@ use denote.Triple.Clauses.{ensured, lasts}
 use Prim.Native.Nat.{ℕ}
 use Rattle.real.specs.Reply.{Reply}
 use Rattle.plane.specs.Grade.{double}
 use Rattle.view.specs.Answers.{countReply, vertexCountOf}
-use Rattle.view.specs.declared.pline_view.PlineView.{PlineView}
+use Rattle.pline_view.specs.declared.pline_view.PlineView.{PlineView}
 use Rattle.view.specs.declared.view_data.CountAnswer.{CountAnswer}
-use Rattle.view.proofs.pline_view.PlineView as T
-use Rattle.view.proofs.pline_view.PlineView.Laws as T′
+use Rattle.pline_view.proofs.pline_view.PlineView as T
+use Rattle.pline_view.proofs.pline_view.PlineView.Laws as T′
 use Rattle.view.proofs.view_data.PlineViewData as D₀
 use Rattle.view.proofs.view_data.PlineViewData.Laws as D₀′
 use Rattle.view.proofs.view_data.CountAnswer as S
 use Rattle.view.proofs.view_data.CountAnswer.Laws as S′
 use Rattle.view.proofs.view_data.PlineViewData.vertex_count as got
 use Rattle.view.proofs.view_data.PlineViewData.vertex_count.Symbol as got-def
 use Rattle.view.proofs.view_data.PlineViewData.vertex_count.Symbol.{name as #vertex-count}
 use Rattle.view.proofs.view_data.PlineViewData.vertex_count.Met as got-thm
-use Rattle.view.proofs.pline_view.PlineView.vertex_count.Key.{name as #this}
-use Rattle.view.proofs.pline_view.PlineView.vertex_count as this
-use Rattle.view.proofs.pline_view.PlineView.vertex_count.Statement as stated
-use Rattle.view.proofs.pline_view.PlineView.vertex_count.Code as code
+use Rattle.pline_view.proofs.pline_view.PlineView.vertex_count.Key.{name as #this}
+use Rattle.pline_view.proofs.pline_view.PlineView.vertex_count as this
+use Rattle.pline_view.proofs.pline_view.PlineView.vertex_count.Statement as stated
+use Rattle.pline_view.proofs.pline_view.PlineView.vertex_count.Code as code
 
 -- the struct's type, over the signature's lifetimes
 abbrev B : Lfts 1 → RattleType

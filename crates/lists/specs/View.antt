@@ -3,7 +3,7 @@ use Prim.Native.Nat.{ℕ, _+_, _-_, _%_}
 use mathlib.Core.Bool.{Bool, cond, not}
 use mathlib.Core.List.{List}
 use lib.Dec.{ltb, eqb}
-use Rattle.view.specs.Plain.{Vert, withBulge, tab}
+use Rattle.lists.specs.Plain.{Vert, withBulge, tab}
 
 pub record View (A : Type 0) : Type 0 where
   pub start : ℕ

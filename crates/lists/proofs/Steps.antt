@@ -6,8 +6,8 @@ use native.Mathlib.Omega.{arith}
 use mathlib.Core.Bool.{cond}
 use lib.Dec.{ltb}
 use borrow.Author.Tests.{lt-ltb, le-ltb}
-use Rattle.view.specs.Plain.{Vert, withBulge, tab, at, turnAt, trimAt, turnList, trimList}
-use Rattle.view.proofs.Tab.{length-tab, getD-tab, tab-ext}
+use Rattle.lists.specs.Plain.{Vert, withBulge, tab, at, turnAt, trimAt, turnList, trimList}
+use Rattle.lists.proofs.Tab.{length-tab, getD-tab, tab-ext}
 
 module _ {A : Type 0} (neg : A → A) (z : A) where
   module _ (neg-neg : (a : A) → neg (neg a) ≡ a) where

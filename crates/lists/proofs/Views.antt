@@ -5,8 +5,8 @@ use native.Mathlib.Nat.{mod-add-mod, add-assoc}
 use native.Mathlib.Decide.{decLt}
 use native.Mathlib.Omega.{arith}
 use borrow.Author.Tests.{lt-ltb, le-ltb, eq-eqb, ne-eqb}
-use Rattle.view.specs.Plain.{Vert, withBulge, turnAt, trimAt}
-use Rattle.view.specs.View.{View, forward, backward, part}
+use Rattle.lists.specs.Plain.{Vert, withBulge, turnAt, trimAt}
+use Rattle.lists.specs.View.{View, forward, backward, part}
 
 -- where position k of a view with offset o is: the first vertex, one between, the last of the outline, the end point
 pub data Place (o k : ℕ) : Type 0 where

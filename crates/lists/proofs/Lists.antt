@@ -7,8 +7,8 @@ use native.Mathlib.Omega.{arith}
 use lib.ListN.{length, getD, take, drop, length-drop}
 use lib.Seq.{getD-drop}
 use borrow.Author.Tests.{lt-ltb, le-ltb}
-use Rattle.view.specs.Plain.{Vert, withBulge, position, tab, at, turnAt, trimAt, turnList, trimList, PlainSteps}
-use Rattle.view.proofs.Tab.{tab-ext, tab-suc}
+use Rattle.lists.specs.Plain.{Vert, withBulge, position, tab, at, turnAt, trimAt, turnList, trimList, PlainSteps}
+use Rattle.lists.proofs.Tab.{tab-ext, tab-suc}
 
 module _ {B : Type 0} where
   take-tab : (l : List B) (m : ℕ) (d : B) → m ≤ length l → take m l ≡ tab (λ k. getD l k d) m

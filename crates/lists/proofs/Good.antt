@@ -5,9 +5,9 @@ use native.Mathlib.Nat.{mod-lt}
 use native.Mathlib.Decide.{decLt}
 use native.Mathlib.Omega.{arith}
 use mathlib.Core.Bool.{Bool, true, false, cond}
-use Rattle.view.specs.Plain.{Vert}
-use Rattle.view.specs.View.{View, forward, turnView, part, trimView}
-use Rattle.view.proofs.Views.{Place, place, first, inner, final, past, at-first, at-inner, at-final, at-past}
+use Rattle.lists.specs.Plain.{Vert}
+use Rattle.lists.specs.View.{View, forward, turnView, part, trimView}
+use Rattle.lists.proofs.Views.{Place, place, first, inner, final, past, at-first, at-inner, at-final, at-past}
 
 module _ {A : Type 0} (C B : A → Type 0) where
   pub record InRange (v : Vert A) : Type 0 where

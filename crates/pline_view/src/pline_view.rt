@@ -1,11 +1,11 @@
 // The crate's `PlineView`: a record with the outline that it is over.
-use crate::view_data::CountAnswer;
-use crate::view_data::PlineViewData;
 use plane::VertexAnswer;
+use view::CountAnswer;
+use view::PlineViewData;
 ghost use mathlib.Core.Path.{_≡_};
 ghost use Rattle.plane.specs.Grade.{double};
 ghost use Rattle.plane.specs.From.{vertexReply};
 ghost use Rattle.view.specs.Answers.{countReply, getVertexOf, vertexCountOf};
 
 pub struct PlineView<'a> {
     pub source: &'a [f64],

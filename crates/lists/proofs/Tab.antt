@@ -6,7 +6,7 @@ use native.Mathlib.Omega.{arith}
 use mathlib.Core.List.{List, [], _∷_, _++_}
 use lib.ListN.{length, getD, drop, length-append, length-drop}
 use lib.Seq.{sets, sets-eq, take-at, drop-at, drop-drop}
-use Rattle.view.specs.Plain.{Vert, tab, flat, numbers}
+use Rattle.lists.specs.Plain.{Vert, tab, flat, numbers}
 
 module _ {B : Type 0} where
   pub length-tab : (f : ℕ → B) (n : ℕ) → length (tab f n) ≡ n

@@ -43,27 +43,27 @@ use Rattle.plane.specs.Grade.{double}
 use Rattle.plane.specs.From.{vertexReply}
 use Rattle.plane.specs.declared.pline_vertex.PlineVertex.{PlineVertex}
 use Rattle.plane.specs.declared.pline_vertex.VertexAnswer.{VertexAnswer}
 use Rattle.view.specs.Answers.{getVertexOf}
-use Rattle.view.specs.declared.pline_view.PlineView.{PlineView}
+use Rattle.pline_view.specs.declared.pline_view.PlineView.{PlineView}
 use Rattle.view.specs.declared.view_data.PlineViewData.{PlineViewData}
-use Rattle.view.proofs.pline_view.PlineView as T
-use Rattle.view.proofs.pline_view.PlineView.Laws as T′
+use Rattle.pline_view.proofs.pline_view.PlineView as T
+use Rattle.pline_view.proofs.pline_view.PlineView.Laws as T′
 use Rattle.view.proofs.view_data.PlineViewData as D₀
 use Rattle.view.proofs.view_data.PlineViewData.Laws as D₀′
 use Rattle.plane.proofs.pline_vertex.VertexAnswer as S
 use Rattle.plane.proofs.pline_vertex.VertexAnswer.Laws as S′
-use Rattle.view.proofs.pline_view.PlineView.new as new
-use Rattle.view.proofs.pline_view.PlineView.new.Symbol as new-def
-use Rattle.view.proofs.pline_view.PlineView.new.Symbol.{name as #new}
-use Rattle.view.proofs.pline_view.PlineView.new.Met as new-thm
-use Rattle.view.proofs.pline_view.PlineView.get as get
-use Rattle.view.proofs.pline_view.PlineView.get.Symbol as get-def
-use Rattle.view.proofs.pline_view.PlineView.get.Symbol.{name as #get}
-use Rattle.view.proofs.pline_view.PlineView.get.Met as get-thm
-use Rattle.view.proofs.pline_view.vertex_through_view.Key.{name as #this}
-use Rattle.view.proofs.pline_view.vertex_through_view as this
-use Rattle.view.proofs.pline_view.vertex_through_view.Statement as stated
-use Rattle.view.proofs.pline_view.vertex_through_view.Code as code
+use Rattle.pline_view.proofs.pline_view.PlineView.new as new
+use Rattle.pline_view.proofs.pline_view.PlineView.new.Symbol as new-def
+use Rattle.pline_view.proofs.pline_view.PlineView.new.Symbol.{name as #new}
+use Rattle.pline_view.proofs.pline_view.PlineView.new.Met as new-thm
+use Rattle.pline_view.proofs.pline_view.PlineView.get as get
+use Rattle.pline_view.proofs.pline_view.PlineView.get.Symbol as get-def
+use Rattle.pline_view.proofs.pline_view.PlineView.get.Symbol.{name as #get}
+use Rattle.pline_view.proofs.pline_view.PlineView.get.Met as get-thm
+use Rattle.pline_view.proofs.pline_view.vertex_through_view.Key.{name as #this}
+use Rattle.pline_view.proofs.pline_view.vertex_through_view as this
+use Rattle.pline_view.proofs.pline_view.vertex_through_view.Statement as stated
+use Rattle.pline_view.proofs.pline_view.vertex_through_view.Code as code
 
 -- the struct's type, over the signature's lifetimes
 abbrev B : Lfts 1 → RattleType
@@ -190,5 +190,5 @@ vertex-through-view-spec 𝓤 H 𝓜 𝓖 𝓡 =
     entered 𝓤 H (tripleOf 𝓤 H (𝓖 .A) this.signature (this.spec 𝓤 H (𝓖 .A) (𝓜 .mem) (𝓡 .run)))
     (tables 𝓤 H 𝓜 𝓡 code.env .C) (tables 𝓤 H 𝓜 𝓡 code.env .Λ) #this code.function (code.unfolded 𝓤 H 𝓜 𝓡)
     (through-meets 𝓤 H (𝓖 .A) (givenOf 𝓤 H 𝓜 𝓖) (𝓜 .mem) (𝓡 .run) (tablesOf 𝓤 H 𝓜 (tables 𝓤 H 𝓜 𝓡 code.env))
-    (cited 𝓤 H (New 𝓤 H (𝓖 .A) (𝓜 .mem) (𝓡 .run)) 𝓜 𝓡 code.env #new new-def.routine code.calls-view·pline-view·PlineView·new (new-thm.met 𝓤 H 𝓜 𝓖 𝓡))
-    (cited 𝓤 H (Get 𝓤 H (𝓖 .A) (𝓜 .mem) (𝓡 .run)) 𝓜 𝓡 code.env #get get-def.routine code.calls-view·pline-view·PlineView·get (get-thm.met 𝓤 H 𝓜 𝓖 𝓡)))
+    (cited 𝓤 H (New 𝓤 H (𝓖 .A) (𝓜 .mem) (𝓡 .run)) 𝓜 𝓡 code.env #new new-def.routine code.calls-pline-view·pline-view·PlineView·new (new-thm.met 𝓤 H 𝓜 𝓖 𝓡))
+    (cited 𝓤 H (Get 𝓤 H (𝓖 .A) (𝓜 .mem) (𝓡 .run)) 𝓜 𝓡 code.env #get get-def.routine code.calls-pline-view·pline-view·PlineView·get (get-thm.met 𝓤 H 𝓜 𝓖 𝓡)))

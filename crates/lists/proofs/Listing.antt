@@ -5,11 +5,11 @@ use native.Mathlib.Omega.{arith}
 use mathlib.Core.Bool.{Bool, true, false, cond, not}
 use mathlib.Core.List.{List}
 use lib.ListN.{length}
-use Rattle.view.specs.Plain.{Vert, tab, at, turnAt, turnList, trimList}
-use Rattle.view.specs.View.{View, forward, backward, vertexAt, viewList, turnView, part, trimView}
-use Rattle.view.proofs.Tab.{length-tab, getD-tab, tab-ext}
-use Rattle.view.proofs.Steps.{turn-turn, turn-tab, trim-tab, trim-turn-tab}
-use Rattle.view.proofs.Views.{at-past, back-past, back-turn, part-forward}
+use Rattle.lists.specs.Plain.{Vert, tab, at, turnAt, turnList, trimList}
+use Rattle.lists.specs.View.{View, forward, backward, vertexAt, viewList, turnView, part, trimView}
+use Rattle.lists.proofs.Tab.{length-tab, getD-tab, tab-ext}
+use Rattle.lists.proofs.Steps.{turn-turn, turn-tab, trim-tab, trim-turn-tab}
+use Rattle.lists.proofs.Views.{at-past, back-past, back-turn, part-forward}
 
 module _ {A : Type 0} (neg : A → A) (z : A) (src : ℕ → Vert A) (n : ℕ) (r : View A) where
   -- r's list, as if its direction were b

@@ -1,0 +1,1 @@
+// Plain lists of vertices and views of them over any type of numbers: definitions and laws, and no function.
