@@ -3,9 +3,10 @@
  * Every function returns 0 where it answers, else one of the refusals below, and then has written nothing. The refusals
  * of each function stand beside it in the order in which they are judged; of several the first is returned.
  *
- * A slice is a pointer and a length in elements. The pointer is not null, also where the length is 0, and aligned for its
- * element. So a record and an answer of bytes may stand at any address: they are read and written byte by byte. The answer
- * stands at the front of its buffer, and places past the answer keep what they held.
+ * A slice is a pointer and a length in elements: numbers, words, or bytes, of which a record has 64. The pointer is not
+ * null, also where the length is 0, and aligned for its element. So a record and an answer of bytes may stand at any
+ * address: they are read and written byte by byte. An answer stands at the front of its buffer, and places past it keep
+ * what they held.
  *
  * An outline is 0 to 1,024 vertices of three numbers x, y, bulge. A segment is 6 numbers, its two vertices. The library
  * is for x86-64, a little-endian machine, where bf_record is the job sheet's record byte for byte.

@@ -7,8 +7,8 @@
  *
  * The calls run on a stack of their own, of the size that the header calls enough; outside it nothing may be written.
  * How much of it was written goes to standard error, this program's own frames among it. The header's number is rounded
- * up from what the archive's code takes: the frames along the deepest row of calls, bf_view_mark to the square root, are
- * 672 bytes with the return addresses, and the last of them uses 128 bytes below. The file is C11 and C++17. */
+ * up with room to spare: read from the archive's code, the frames of the deepest row of calls, bf_view_mark down to the
+ * square root, take some 800 bytes. The file is C11 and C++17. */
 #define _XOPEN_SOURCE 700
 
 #include "bisquefern.h"
@@ -273,6 +273,41 @@ static void call_all(void)
     said.done = 1;
 }
 
+#define NAMED(n) case n: return #n;
+
+static const char *refusal_name(enum bf_refusal refusal)
+{
+    switch (refusal) {
+        NAMED(BF_BAD_NUMBER)
+        NAMED(BF_BAD_TOLERANCE)
+        NAMED(BF_BAD_OUTLINE)
+        NAMED(BF_BAD_INDEX)
+        NAMED(BF_BAD_OFFSET)
+        NAMED(BF_NO_ARC)
+        NAMED(BF_UNEVEN_BULGES)
+        NAMED(BF_NO_ROOM)
+        NAMED(BF_BAD_TRIM)
+        NAMED(BF_NOT_CLOSED)
+        NAMED(BF_BAD_SHEET)
+        NAMED(BF_BAD_RECORD)
+    }
+    return "unknown";
+}
+
+static const char *verdict_name(enum bf_verdict verdict)
+{
+    switch (verdict) {
+        NAMED(BF_NO_SEGMENTS)
+        NAMED(BF_OFFSET_OUT_OF_RANGE)
+        NAMED(BF_START_NOT_ON_SEGMENT)
+        NAMED(BF_END_NOT_ON_SEGMENT)
+        NAMED(BF_END_ON_FINAL_VERTEX)
+        NAMED(BF_BULGES_DO_NOT_MATCH)
+        NAMED(BF_VALID)
+    }
+    return "unknown";
+}
+
 static void print_numbers(const char *format, size_t from, size_t to)
 {
     for (size_t k = from; k < to; k++)
@@ -299,7 +334,7 @@ static void print_said(void)
     size_t n = 0, w = 0, b = 0;
     printf("%s", said.name);
     if (said.refusal != 0) {
-        printf(" refused %d", said.refusal);
+        printf(" refused %d %s", said.refusal, refusal_name((enum bf_refusal)said.refusal));
     } else if (said.kind == NUMBERS) {
         n = said.count;
         print_numbers(" %.17g", 0, n);
@@ -327,7 +362,7 @@ static void print_said(void)
     } else if (said.kind == VERDICT) {
         w = 3;
         n = 5;
-        printf(" verdict");
+        printf(" %s", verdict_name((enum bf_verdict)words[0]));
         print_words(w);
         printf(" with");
         print_numbers(" %.17g", 0, n);
