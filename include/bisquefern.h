@@ -3,12 +3,22 @@
  * Every function returns 0 where it answers, else one of the refusals below, and then has written nothing. The refusals
  * of each function stand beside it in the order in which they are judged; of several the first is returned.
  *
- * A slice is a pointer and a length in elements. The pointer is aligned and not null, also where the length is 0. An
- * answer buffer is lent to nothing else during the call; the answer stands at its front, and places past the answer
- * keep what they held.
+ * A slice is a pointer and a length in elements: numbers, words, or bytes, of which a record has 64. The pointer is not
+ * null, also where the length is 0, and aligned for its element. So a record and an answer of bytes may stand at any
+ * address: they are read and written byte by byte. An answer stands at the front of its buffer, and places past it keep
+ * what they held.
  *
  * An outline is 0 to 1,024 vertices of three numbers x, y, bulge. A segment is 6 numbers, its two vertices. The library
- * is for little-endian machines, where bf_record is the job sheet's record byte for byte. */
+ * is for x86-64, a little-endian machine, where bf_record is the job sheet's record byte for byte.
+ *
+ * What no function can test is the caller's to see to:
+ * - each slice lies in memory that may be read, an answer buffer in memory that may be written;
+ * - an answer buffer overlaps no other slice of the call, and nothing else writes to any of them during the call;
+ * - numbers round to nearest, ties to even, and subnormal ones are kept, not taken for 0 or flushed to 0. A C program
+ *   starts so; -ffast-math and its like may change it;
+ * - BF_STACK_BYTES of stack are free.
+ * The library keeps nothing between calls, asks for no memory and calls nothing, so calls may run on many threads at
+ * once. */
 #ifndef BISQUEFERN_H
 #define BISQUEFERN_H
 
@@ -33,6 +43,20 @@ enum bf_refusal {
     BF_BAD_SHEET = 11,     /* a record that is not 64 bytes */
     BF_BAD_RECORD = 12     /* a record's direction is not 0 or 1, or its reserved field is not 0 */
 };
+
+/* What bf_view_validate says of a view. The numbers that it gives beside the verdict stand there. */
+enum bf_verdict {
+    BF_NO_SEGMENTS = 1,          /* the outline has under two vertices */
+    BF_OFFSET_OUT_OF_RANGE = 2,  /* the offset is above the vertex count */
+    BF_START_NOT_ON_SEGMENT = 3, /* the updated start is not on its segment, to 0.001 */
+    BF_END_NOT_ON_SEGMENT = 4,   /* the end point is not on its segment, to 0.001 */
+    BF_END_ON_FINAL_VERTEX = 5,  /* the end point is on the vertex where its segment starts, to 0.00001 */
+    BF_BULGES_DO_NOT_MATCH = 6,  /* the offset is 0, and the end bulge is not the start bulge, to 0.00001 */
+    BF_VALID = 7                 /* none of these: the view may be cut */
+};
+
+/* Bytes of stack that are enough for any call. */
+enum { BF_STACK_BYTES = 4096 };
 
 /* A view of an outline. */
 typedef struct bf_record {
@@ -88,18 +112,19 @@ uint8_t bf_view_create(const double *outline, size_t outline_len, uint64_t start
                        uint64_t intersect, const double *vertex, size_t vertex_len, uint64_t traverse,
                        double tolerance, void *out, size_t out_len);
 
-/* The record of the view round a closed outline from (x, y) on segment `start`: 64 bytes. `closed` other than 0 counts
- * as closed. 3, 1, 2, 10, 4, 8. */
+/* The record of the view round a closed outline from (x, y) on segment `start`: 64 bytes. `closed` is 0 for an open
+ * outline, which is refused 10; any other number is for a closed one. 3, 1, 2, 10, 4, 8. */
 uint8_t bf_view_from_new_start(const double *outline, size_t outline_len, uint8_t closed, double x, double y,
                                uint64_t start, double tolerance, void *out, size_t out_len);
 
-/* The verdict, 1 to 7. `whole` gets 3 words: the verdict, and for verdict 2 the offset and the vertex count, else 0, 0.
- * `out` gets 5 numbers, unused ones 0: for 3 the start point, for 4 the end point, for 5 the end point and the source
- * vertex, for 6 the end bulge and the start bulge. 11, 12, 3, 1, 4, 8. */
+/* The verdict, a number of bf_verdict. `whole` gets 3 words: the verdict, and for verdict 2 the offset and the vertex
+ * count, else 0, 0. `out` gets 5 numbers, unused ones 0: for 3 the start point, for 4 the end point, for 5 the end point
+ * and the source vertex, for 6 the end bulge and the start bulge. 11, 12, 3, 1, 4, 8. */
 uint8_t bf_view_validate(const double *outline, size_t outline_len, const void *record, size_t record_len,
                          uint64_t *whole, size_t whole_len, double *out, size_t out_len);
 
-/* 1 for cut, 0 for hold: 1 byte. 11, 12, 3, 1, 4, 8. */
+/* 1 for cut, where the verdict is BF_VALID, else 0 for hold: 1 byte. `closed` is 0 for an open outline, any other number
+ * for a closed one; both kinds are marked alike. 11, 12, 3, 1, 4, 8. */
 uint8_t bf_view_mark(const double *outline, size_t outline_len, uint8_t closed, const void *record, size_t record_len,
                      uint8_t *out, size_t out_len);
 

@@ -1,5 +1,6 @@
 #!/bin/sh
-# Builds face.c against the static library, runs it, and compares what it prints with face.expected.
+# Compares the header with the source, builds face.c against the static library as C11 and as C++17, runs it with the records at
+# each distance from an aligned address, and compares what it prints with face.expected, which is written by hand.
 set -eu
 here=$(cd "$(dirname "$0")" && pwd)
 root=$(cd "$here/../.." && pwd)
@@ -8,9 +9,18 @@ if [ ! -f "$archive" ]; then
     echo "tests/c: target/staticlib/libbisquefern.a is missing: run rt staticlib bisquefern first" >&2
     exit 1
 fi
+"$here/header.sh"
 work=$(mktemp -d)
 trap 'rm -rf "$work"' EXIT
-"${CC:-gcc}" -std=c11 -Wall -Wextra -Werror -pedantic -I "$root/include" "$here/face.c" "$archive" -o "$work/face"
-"$work/face" > "$work/face.out"
-diff -u "$here/face.expected" "$work/face.out"
+# The loader finds every name at once, not on the calls' own small stack.
+set -- -Wall -Wextra -Werror -pedantic -Wl,-z,now -I "$root/include"
+"${CC:-gcc}" -x c -std=c11 "$@" "$here/face.c" -x none "$archive" -o "$work/c11"
+"${CXX:-g++}" -x c++ -std=c++17 "$@" "$here/face.c" -x none "$archive" -o "$work/c++17"
+for program in c11 c++17; do
+    for shift in 0 1 2 3 4 5 6 7; do
+        "$work/$program" $shift >"$work/out" 2>"$work/stack" || { echo "tests/c: $program $shift stopped" >&2; exit 1; }
+        diff -u "$here/face.expected" "$work/out"
+    done
+    cat "$work/stack"
+done
 echo "tests/c: ok"
