@@ -7,6 +7,7 @@ pub mod case;
 pub mod compare;
 pub mod generate;
 pub mod random;
+pub mod report;
 pub mod rows;
 pub mod sheets;
 pub mod stored;

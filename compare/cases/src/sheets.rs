@@ -1,7 +1,7 @@
 //! Whole job sheets, sound and damaged, and the comparison of a program with the oracle's text.
 
-use crate::compare::Report;
 use crate::generate::{Generator, on_circle};
+use crate::report::Report;
 use oracle::record::{RECORD_BYTES, encode};
 use oracle::sheet::{LONGEST, sheet_text};
 use oracle::{PlineViewData, view};

@@ -1,6 +1,7 @@
 //! The comparison finds faults: the oracle is spoilt in one place at a time, and each time the comparison must say so.
 
-use cases::compare::{Report, compare_calls};
+use cases::compare::compare_calls;
+use cases::report::Report;
 use cases::sheets::compare_sheets;
 use oracle::sheet::sheet_text;
 use oracle::{Library, Oracle, Vector2, record, view};

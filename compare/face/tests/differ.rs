@@ -2,7 +2,8 @@
 //!
 //! `BISQUEFERN_ROUNDS` repeats it that often, each time from another seed.
 
-use cases::compare::{Report, compare_calls};
+use cases::compare::compare_calls;
+use cases::report::Report;
 use cases::sheets::sheet_program;
 use cases::sheets::{compare_sheets, printed};
 use cases::stored;

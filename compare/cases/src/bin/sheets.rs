@@ -2,7 +2,7 @@
 //!
 //! Exit status 1 where any sheet's text differs.
 
-use cases::compare::Report;
+use cases::report::Report;
 use cases::sheets::{compare_sheets, printed, sheet_program};
 use std::{env, process::ExitCode};
 

@@ -2,7 +2,8 @@
 //!
 //! Exit status 1 where anything differs, or where some answer, refusal or verdict was not reached.
 
-use cases::compare::{Report, compare_calls};
+use cases::compare::compare_calls;
+use cases::report::Report;
 use cases::sheets::{compare_sheets, printed, sheet_program};
 use face::Bisquefern;
 use std::{env, process::ExitCode};
