@@ -26,7 +26,12 @@ fn called_with<const N: usize>(left_out: [u64; N]) -> Option<[u64; N]> {
 
 /// For tests: called with these words, a program must say only this and end with status 2.
 pub fn expect_end(program: &str, words: &[&str], reason: &str) {
-    let output = Command::new(program).args(words).output().unwrap();
+    let mut program = Command::new(program);
+    let output = program
+        .args(words)
+        .current_dir(env::temp_dir())
+        .output()
+        .unwrap();
     assert_eq!(
         String::from_utf8(output.stderr).unwrap(),
         reason,
