@@ -203,8 +203,8 @@ pub fn compare_sheets(
     }
 }
 
-/// The program `sheet` that is judged: `BISQUEFERN_SHEET`, else target/bin/sheet of the repository. Where it is missing,
-/// the reason.
+/// The program `sheet` that is judged: `BISQUEFERN_SHEET`, else target/bin/sheet of the repository; or what to do where
+/// it is missing.
 pub fn sheet_program() -> Result<PathBuf, String> {
     let (program, reason) = match env::var_os("BISQUEFERN_SHEET") {
         Some(path) => (PathBuf::from(path), "BISQUEFERN_SHEET names it"),

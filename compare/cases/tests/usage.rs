@@ -20,7 +20,8 @@ fn sheets() {
 
 #[test]
 fn vectors() {
-    let usage = "usage: vectors [--roots] CASES_FILE EXPECTED_FILE, for the whole list or only its square roots\n";
+    let usage =
+        "usage: vectors [--roots] CASES_FILE EXPECTED_FILE; --roots writes only the square roots\n";
     for words in [
         &[][..],
         &["cases"],

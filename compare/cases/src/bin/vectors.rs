@@ -1,7 +1,7 @@
 //! Writes a list of cases and the oracle's answers: `vectors [--roots] CASES_FILE EXPECTED_FILE`.
 //!
-//! Without `--roots` it is the whole list, which `replay` stores; with `--roots` only its first cases, the square roots.
-//! The form of both files is described in `cases::case`.
+//! It is the whole list, which `replay` stores; with `--roots` only the square roots, with which that list begins. The
+//! form of both files is described in `cases::case`.
 
 use cases::start::or_end;
 use cases::stored;
@@ -19,7 +19,7 @@ fn main() {
             Ok((stored::all(), cases, answers))
         }
         _ => Err(
-            "usage: vectors [--roots] CASES_FILE EXPECTED_FILE, for the whole list or only its square roots"
+            "usage: vectors [--roots] CASES_FILE EXPECTED_FILE; --roots writes only the square roots"
                 .to_string(),
         ),
     });
