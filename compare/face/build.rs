@@ -7,11 +7,12 @@ fn main() {
     let root = manifest.ancestors().nth(2).unwrap();
     let folder = root.join("target/staticlib");
     let archive = folder.join("libbisquefern.a");
-    println!("cargo:rerun-if-changed={}", archive.display());
-    assert!(
-        archive.exists(),
-        "target/staticlib/libbisquefern.a is missing: run rt staticlib bisquefern first"
-    );
-    println!("cargo:rustc-link-search=native={}", folder.display());
-    println!("cargo:rustc-link-lib=static=bisquefern");
+    println!("cargo::rerun-if-changed={}", archive.display());
+    if !archive.exists() {
+        println!(
+            "cargo::error=target/staticlib/libbisquefern.a is missing: run rt staticlib bisquefern first"
+        );
+    }
+    println!("cargo::rustc-link-search=native={}", folder.display());
+    println!("cargo::rustc-link-lib=static=bisquefern");
 }

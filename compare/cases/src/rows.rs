@@ -1,8 +1,8 @@
 //! Demand 3: rows of reversals and trims on a record, held against the same steps on the plain list.
 
 use crate::case::{Call, Case, Outcome};
-use crate::compare::Report;
 use crate::generate::Generator;
+use crate::report::Report;
 use oracle::record::{RECORD_BYTES, encode};
 use oracle::{Library, Oracle, PlineVertex, plain, view};
 

@@ -1,10 +1,12 @@
 //! Whole job sheets, sound and damaged, and the comparison of a program with the oracle's text.
 
-use crate::compare::Report;
 use crate::generate::{Generator, on_circle};
+use crate::report::Report;
+use crate::repository;
 use oracle::record::{RECORD_BYTES, encode};
 use oracle::sheet::{LONGEST, sheet_text};
 use oracle::{PlineViewData, view};
+use std::env;
 use std::io::{ErrorKind, Write};
 use std::path::{Path, PathBuf};
 use std::process::{Command, Stdio};
@@ -201,19 +203,19 @@ pub fn compare_sheets(
     }
 }
 
-/// The program `sheet` that is judged: `BISQUEFERN_SHEET`, else target/bin/sheet of the repository.
-pub fn sheet_program() -> PathBuf {
-    let program = match std::env::var_os("BISQUEFERN_SHEET") {
-        Some(path) => PathBuf::from(path),
-        None => PathBuf::from(concat!(
-            env!("CARGO_MANIFEST_DIR"),
-            "/../../target/bin/sheet"
-        )),
+/// The program `sheet` that is judged: `BISQUEFERN_SHEET`, else target/bin/sheet of the repository; or what to do where
+/// it is missing.
+pub fn sheet_program() -> Result<PathBuf, String> {
+    let (program, reason) = match env::var_os("BISQUEFERN_SHEET") {
+        Some(path) => (PathBuf::from(path), "BISQUEFERN_SHEET names it"),
+        None => (
+            repository().join("target/bin/sheet"),
+            "run rt check sheet first",
+        ),
     };
-    assert!(
-        program.exists(),
-        "{} is missing: run rt check sheet first",
-        program.display()
-    );
-    program
+    if program.exists() {
+        Ok(program)
+    } else {
+        Err(format!("{} is missing: {reason}", program.display()))
+    }
 }

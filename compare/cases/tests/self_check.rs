@@ -1,6 +1,7 @@
 //! The comparison itself: it reaches everything document 01 names, and finds nothing between the oracle and itself.
 
-use cases::compare::{Report, compare_calls};
+use cases::compare::compare_calls;
+use cases::report::Report;
 use cases::sheets::compare_sheets;
 use oracle::Oracle;
 use oracle::sheet::sheet_text;

@@ -1,8 +1,46 @@
-//! The stored list: large enough, over every call and refusal, and the same each time.
+//! The stored list: large enough, over every call and refusal, and the same each time. What the repository stores of
+//! the oracle's answers is what the oracle answers now.
 
 use cases::case::Call;
+use cases::repository;
 use cases::stored::{all, files, roots};
 use oracle::Oracle;
+use oracle::sheet::sheet_text;
+use std::fs;
+
+fn stored(file: &str) -> Vec<u8> {
+    fs::read(repository().join(file)).unwrap_or_else(|error| panic!("{file}: {error}"))
+}
+
+/// Holds a file of the repository to what is made now; `command`, in this workspace, makes the file anew.
+fn hold(file: &str, made: &[u8], command: &str) {
+    let stored = stored(file);
+    let same = stored.iter().zip(made).take_while(|(a, b)| a == b).count();
+    assert!(
+        stored == made,
+        "{file} is not what the oracle makes, from byte {same} on; in compare/ this makes it anew:\n  {command}"
+    );
+}
+
+#[test]
+fn the_list_of_replay_is_made_anew() {
+    let command =
+        "cargo run --release --bin vectors -- ../crates/replay/stdin ../crates/replay/stdout";
+    let (cases, answers) = files(&all());
+    hold("crates/replay/stdin", &cases, command);
+    hold("crates/replay/stdout", answers.as_bytes(), command);
+}
+
+#[test]
+fn the_texts_of_sheets_are_made_anew() {
+    for (sheet, text) in [
+        ("examples/gasket.sheet", "examples/gasket.out"),
+        ("crates/sheet/stdin", "crates/sheet/stdout"),
+    ] {
+        let command = format!("cargo run --release --bin sheet < ../{sheet} > ../{text}");
+        hold(text, &sheet_text(&stored(sheet)), &command);
+    }
+}
 
 #[test]
 fn the_list_covers_every_call_and_refusal() {

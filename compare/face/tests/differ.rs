@@ -2,9 +2,9 @@
 //!
 //! `BISQUEFERN_ROUNDS` repeats it that often, each time from another seed.
 
-use cases::compare::{Report, compare_calls};
-use cases::sheets::sheet_program;
-use cases::sheets::{compare_sheets, printed};
+use cases::compare::compare_calls;
+use cases::report::Report;
+use cases::sheets::{compare_sheets, printed, sheet_program};
 use cases::stored;
 use face::Bisquefern;
 use oracle::Oracle;
@@ -23,7 +23,7 @@ fn expect_no_difference(report: &Report) {
 
 #[test]
 fn calls_and_sheets() {
-    let program = sheet_program();
+    let program = sheet_program().unwrap();
     let mut report = Report::default();
     for round in 0..rounds() {
         compare_calls(&Bisquefern, 100 + round, 300_000, &mut report);

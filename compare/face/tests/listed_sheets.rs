@@ -22,7 +22,7 @@ fn prints(name: &str, bytes: &[u8], text: &str) {
     let show = |out: Vec<u8>| String::from_utf8(out).expect("a sheet's text is ASCII");
     assert_eq!(show(sheet_text(bytes)), text, "the oracle: {name}");
     assert_eq!(
-        show(printed(&sheet_program(), bytes)),
+        show(printed(&sheet_program().unwrap(), bytes)),
         text,
         "the program: {name}"
     );
@@ -35,7 +35,7 @@ fn begins(name: &str, bytes: &[u8], start: &str, lines: usize) {
     let count = text.iter().filter(|byte| **byte == b'\n').count();
     assert_eq!(count, lines, "the oracle's lines: {name}");
     assert!(
-        printed(&sheet_program(), bytes) == text,
+        printed(&sheet_program().unwrap(), bytes) == text,
         "the program: {name}"
     );
 }

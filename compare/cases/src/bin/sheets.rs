@@ -2,20 +2,16 @@
 //!
 //! Exit status 1 where any sheet's text differs.
 
-use cases::compare::Report;
+use cases::report::Report;
 use cases::sheets::{compare_sheets, printed, sheet_program};
-use std::{env, process::ExitCode};
+use cases::start::{numbers, or_end};
+use std::process::ExitCode;
 
 fn main() -> ExitCode {
-    let mut numbers = env::args().skip(1).map(|word| match word.parse() {
-        Ok(number) => number,
-        Err(_) => panic!("usage: sheets [SHEETS [SEED]], each a whole number"),
-    });
-    let sheets: u64 = numbers.next().unwrap_or(2_500);
-    let seed: u64 = numbers.next().unwrap_or(1);
+    let [sheets, seed] = numbers("sheets [SHEETS [SEED]], each a whole number", [2_500, 1]);
+    let program = or_end(sheet_program());
 
     let mut report = Report::default();
-    let program = sheet_program();
     compare_sheets(|bytes| printed(&program, bytes), seed, sheets, &mut report);
     for difference in &report.shown {
         println!("different: {difference}");

@@ -1,4 +1,4 @@
-//! Times the library that is judged against the Rust text with document 01's checks, in one run.
+//! Times the library that is judged against the Rust text with document 01's checks, in one run: `bench`.
 //!
 //! For each row both sides make the same calls on the same prepared inputs, in turns; the median of the rounds
 //! counts. Neither side is inlined into the loop. Answer buffers are not cleared between calls.
@@ -6,11 +6,12 @@
 use cases::case::Call;
 use cases::generate::Generator;
 use cases::random::Random;
-use cases::sheets::sheet_program;
-use cases::sheets::{largest_outline, largest_sheet, whole_view};
+use cases::sheets::{largest_outline, largest_sheet, sheet_program, whole_view};
+use cases::start::{numbers, or_end};
 use face::Bisquefern;
 use oracle::record::encode;
 use oracle::{Library, Oracle};
+use std::env;
 use std::fs::{self, File};
 use std::hint::black_box;
 use std::path::{Path, PathBuf};
@@ -23,6 +24,9 @@ const ROUNDS: usize = 61;
 const SHEET_ROUNDS: usize = 21;
 
 fn main() {
+    let [] = numbers("bench, with nothing behind it", []);
+    let programs = [or_end(sheet_program()), or_end(rust_sheet_program())];
+
     println!(
         "{:48} {:>12} {:>12} {:>7}",
         "call", "ours ns", "Rust ns", "ratio"
@@ -31,7 +35,7 @@ fn main() {
     segments();
     views();
     large();
-    sheets();
+    sheets(&programs);
 }
 
 fn print_row(name: &str, ours: f64, rust: f64) {
@@ -399,17 +403,38 @@ fn large() {
     }
 }
 
-/// The largest sheet, program against program, with the output thrown away.
-fn sheets() {
-    let rust = std::env::current_exe().unwrap().with_file_name("sheet");
-    assert!(
-        rust.exists(),
-        "{} is missing: run cargo build --release -p oracle first",
-        rust.display()
-    );
-    let input = std::env::temp_dir().join(format!("largest-sheet-{}", std::process::id()));
+/// The program `sheet` in Rust, built beside this one.
+fn rust_sheet_program() -> Result<PathBuf, String> {
+    let bench = env::current_exe().unwrap();
+    let target = bench.ancestors().nth(2).unwrap();
+    let status = Command::new(env::var_os("CARGO").unwrap_or("cargo".into()))
+        .args([
+            "build",
+            "--quiet",
+            "--release",
+            "-p",
+            "oracle",
+            "--bin",
+            "sheet",
+        ])
+        .arg("--target-dir")
+        .arg(target)
+        .current_dir(env!("CARGO_MANIFEST_DIR"))
+        .status();
+    if status.is_ok_and(|status| status.success()) {
+        Ok(target.join("release/sheet"))
+    } else {
+        Err(
+            "the Rust program sheet cannot be built: run cargo build --release -p oracle first"
+                .to_string(),
+        )
+    }
+}
+
+/// The largest sheet, our program against the Rust one, with the output thrown away.
+fn sheets(programs: &[PathBuf; 2]) {
+    let input = env::temp_dir().join(format!("largest-sheet-{}", std::process::id()));
     fs::write(&input, largest_sheet()).expect("the sheet can be written");
-    let programs: [PathBuf; 2] = [sheet_program(), rust];
     let mut times = [Vec::new(), Vec::new()];
     for _ in 0..SHEET_ROUNDS {
         for (program, times) in programs.iter().zip(&mut times) {

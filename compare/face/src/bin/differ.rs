@@ -2,23 +2,22 @@
 //!
 //! Exit status 1 where anything differs, or where some answer, refusal or verdict was not reached.
 
-use cases::compare::{Report, compare_calls};
+use cases::compare::compare_calls;
+use cases::report::Report;
 use cases::sheets::{compare_sheets, printed, sheet_program};
+use cases::start::{numbers, or_end};
 use face::Bisquefern;
-use std::{env, process::ExitCode};
+use std::process::ExitCode;
 
 fn main() -> ExitCode {
-    let mut numbers = env::args().skip(1).map(|word| match word.parse() {
-        Ok(number) => number,
-        Err(_) => panic!("usage: differ [CALLS [SHEETS [SEED]]], each a whole number"),
-    });
-    let calls: u64 = numbers.next().unwrap_or(5_000_000);
-    let sheets: u64 = numbers.next().unwrap_or(2_500);
-    let seed: u64 = numbers.next().unwrap_or(1);
+    let [calls, sheets, seed] = numbers(
+        "differ [CALLS [SHEETS [SEED]]], each a whole number",
+        [5_000_000, 2_500, 1],
+    );
+    let program = or_end(sheet_program());
 
     let mut report = Report::default();
     compare_calls(&Bisquefern, seed, calls, &mut report);
-    let program = sheet_program();
     compare_sheets(|bytes| printed(&program, bytes), seed, sheets, &mut report);
 
     print!("{}", report.table());
