@@ -4,8 +4,9 @@ set -eu
 here=$(cd "$(dirname "$0")" && pwd)
 root=$(cd "$here/../.." && pwd)
 cases=$here/cases
+at=
 fail() {
-    echo "tests/tools: $*" >&2
+    echo "tests/tools: $*$at" >&2
     exit 1
 }
 command -v python3 >/dev/null || fail "python3 is missing"
@@ -40,13 +41,18 @@ each() {
     table=$1
     shift
     rm -f message.* text.*
-    awk '/^> / { n++; print substr($0, 3) >("message." n); printf "" >("text." n); next } n { print >("text." n) }' "$table"
+    awk '
+        /^> / { close("text." n); n++; print substr($0, 3) >("message." n); close("message." n); printf "" >("text." n); next }
+        n { print >("text." n) }
+    ' "$table"
     n=1
     while [ -f "message.$n" ]; do
+        at=" (case $n of $table)"
         cp "text.$n" text
         says 1 "text:$(cat "message.$n")" "$@"
         n=$((n + 1))
     done
+    at=
     [ "$n" -gt 1 ] || fail "$table has no case"
 }
 
