@@ -2,6 +2,7 @@
 use crate::arc::Circle;
 use crate::arc::arc_circle;
 use crate::arc::chord;
+use crate::arc::ends_meet;
 use plane::PlineVertex;
 use plane::Vector2;
 use plane::min_max;
@@ -10,6 +11,7 @@ use real::BAD_NUMBER;
 ghost use mathlib.Core.Path.{_≡_};
 ghost use mathlib.Core.Bool.{cond};
 ghost use Rattle.plane.specs.Grade.{double};
+ghost use Rattle.plane.specs.Vertex.{posOf};
 ghost use Rattle.seg.specs.Bounds.{boxReply, lineBox, rises, falls, crossingsOf, anyOf, startRadius, endRadius, crossBox, arcBoxBy, arcBox, boxOf, segBox, downBy, upBy, arcFastBox, fastBox, segFastBox};
 
 pub struct Bounds {
@@ -43,6 +45,13 @@ fn line_seg_bounding_box(start: Vector2, end: Vector2) -> Bounds
         max_x: x.max,
         max_y: y.max,
     }
+}
+
+// The box of the ends.
+fn ends_box(v1: PlineVertex, v2: PlineVertex) -> Bounds
+    ensures { λ r. ⌜ r ≡ lineBox (posOf v1) (posOf v2) ⌝ }
+{
+    line_seg_bounding_box(v1.pos(), v2.pos())
 }
 
 fn rising(a: f64, b: f64) -> bool
@@ -118,9 +127,7 @@ fn cross_box(ends: Bounds, circle: Circle, c: Crossings) -> Bounds
 fn arc_box(v1: PlineVertex, v2: PlineVertex, ends: Bounds, c: Crossings) -> Bounds
     ensures { λ r. ⌜ r ≡ arcBoxBy double v1 v2 ends c ⌝ }
 {
-    let start = Vector2 { x: v1.x, y: v1.y };
-    let end = Vector2 { x: v2.x, y: v2.y };
-    if start.fuzzy_eq(end) {
+    if ends_meet(v1, v2) {
         return Bounds {
             min_x: v1.x,
             min_y: v1.y,
@@ -137,18 +144,15 @@ fn arc_box(v1: PlineVertex, v2: PlineVertex, ends: Bounds, c: Crossings) -> Boun
 fn arc_seg_bounding_box(v1: PlineVertex, v2: PlineVertex) -> Bounds
     ensures { λ r. ⌜ r ≡ arcBox double v1 v2 ⌝ }
 {
-    let ends = line_seg_bounding_box(v1.pos(), v2.pos());
     let c = find_crossings(start_radius(v1, v2), end_radius(v1, v2));
-    arc_box(v1, v2, ends, c)
+    arc_box(v1, v2, ends_box(v1, v2), c)
 }
 
 fn true_box(v1: PlineVertex, v2: PlineVertex) -> Bounds
     ensures { λ r. ⌜ r ≡ boxOf double (double .line) v1 v2 ⌝ }
 {
     if v1.bulge_is_zero() {
-        let start = Vector2 { x: v1.x, y: v1.y };
-        let end = Vector2 { x: v2.x, y: v2.y };
-        return line_seg_bounding_box(start, end);
+        return ends_box(v1, v2);
     }
     arc_seg_bounding_box(v1, v2)
 }
@@ -179,7 +183,7 @@ fn up(edge: f64, offset: f64) -> f64
 fn arc_fast_box(v1: PlineVertex, v2: PlineVertex) -> Bounds
     ensures { λ r. ⌜ r ≡ arcFastBox double v1 v2 ⌝ }
 {
-    let ends = line_seg_bounding_box(v1.pos(), v2.pos());
+    let ends = ends_box(v1, v2);
     let half_bulge = v1.bulge / 2.0;
     let offset_x = half_bulge * (v2.y - v1.y);
     let offset_y = -half_bulge * (v2.x - v1.x);
@@ -195,9 +199,7 @@ fn fast_box(v1: PlineVertex, v2: PlineVertex) -> Bounds
     ensures { λ r. ⌜ r ≡ fastBox double (double .line) v1 v2 ⌝ }
 {
     if v1.bulge_is_zero() {
-        let start = Vector2 { x: v1.x, y: v1.y };
-        let end = Vector2 { x: v2.x, y: v2.y };
-        return line_seg_bounding_box(start, end);
+        return ends_box(v1, v2);
     }
     arc_fast_box(v1, v2)
 }

@@ -10,6 +10,7 @@ use real::BAD_TOLERANCE;
 use real::magnitude;
 use real::root;
 ghost use mathlib.Core.Path.{_≡_};
+ghost use lib.Ieee.{lt};
 ghost use Rattle.plane.specs.Grade.{double};
 ghost use Rattle.seg.specs.Split.{splitReply, splitAt, signedOf, halfSine, partBulge, otherBulge, ratioSq, splitChords, splitArc, splitOf, segSplit};
 
@@ -32,19 +33,19 @@ fn sin_half_sweep(squared: f64) -> f64
     root(squared)
 }
 
-fn signed(negative: bool, m: f64) -> f64
-    ensures { λ r. ⌜ r ≡ signedOf negative m ⌝ }
+fn signed(v1: PlineVertex, m: f64) -> f64
+    ensures { λ r. ⌜ r ≡ signedOf (lt (v1 .bulge) (double .zero)) m ⌝ }
 {
-    if negative { -m } else { m }
+    if v1.bulge_is_neg() { -m } else { m }
 }
 
 // The closure of the crate's split: what it captures is passed in.
-fn bulge_from_chord_length_squared(negative: bool, part: f64, whole: f64, ratio: f64) -> f64
-    ensures { λ r. ⌜ r ≡ partBulge double negative part whole ratio ⌝ }
+fn bulge_from_chord_length_squared(v1: PlineVertex, part: f64, whole: f64, ratio: f64) -> f64
+    ensures { λ r. ⌜ r ≡ partBulge double (lt (v1 .bulge) (double .zero)) part whole ratio ⌝ }
 {
     let s = sin_half_sweep(part / whole * ratio);
     let c = root((1.0 - s) * (1.0 + s));
-    signed(negative, s / (1.0 + c))
+    signed(v1, s / (1.0 + c))
 }
 
 fn other_bulge(b: f64, b1: f64) -> f64
@@ -88,10 +89,10 @@ fn split_chords(v1: PlineVertex, p: Vector2, whole: f64, chord1: f64, chord2: f6
     let start = Vector2 { x: v1.x, y: v1.y };
     let ratio = diameter_ratio_squared(b);
     if chord1 <= chord2 {
-        let b1 = bulge_from_chord_length_squared(b < 0.0, chord1, whole, ratio);
+        let b1 = bulge_from_chord_length_squared(v1, chord1, whole, ratio);
         return split_at(start, b1, p, other_bulge(b, b1));
     }
-    let b2 = bulge_from_chord_length_squared(b < 0.0, chord2, whole, ratio);
+    let b2 = bulge_from_chord_length_squared(v1, chord2, whole, ratio);
     split_at(start, other_bulge(b, b2), p, b2)
 }
 
