@@ -1,4 +1,5 @@
 // Radius and centre of an arc.
+use plane::FUZZ;
 use plane::PlineVertex;
 use plane::Vector2;
 use plane::point_within_arc_sweep;
@@ -29,10 +30,10 @@ pub fn chord(v1: PlineVertex, v2: PlineVertex) -> Vector2
 }
 
 // Whether the two ends are fuzzily equal.
-pub fn ends_meet(v1: PlineVertex, v2: PlineVertex) -> bool
-    ensures { λ r. ⌜ r ≡ vnearOf double (posOf v1) (posOf v2) (double .fuzz) ⌝ }
+pub fn ends_meet(v1: PlineVertex, v2: PlineVertex, eps: f64) -> bool
+    ensures { λ r. ⌜ r ≡ vnearOf double (posOf v1) (posOf v2) eps ⌝ }
 {
-    v1.pos().fuzzy_eq(v2.pos())
+    v1.pos().fuzzy_eq_eps(v2.pos(), eps)
 }
 
 // Whether a point lies in the sweep of the arc about a centre.
@@ -84,7 +85,7 @@ pub fn seg_arc_radius_and_center(v1: PlineVertex, v2: PlineVertex) -> ArcAnswer
     if v1.bulge_is_zero() {
         return ArcAnswer::Refused(NO_ARC);
     }
-    if ends_meet(v1, v2) {
+    if ends_meet(v1, v2, FUZZ) {
         return ArcAnswer::Refused(NO_ARC);
     }
     ArcAnswer::Given(arc_circle(v1, v2))

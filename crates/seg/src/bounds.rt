@@ -3,6 +3,7 @@ use crate::arc::Circle;
 use crate::arc::arc_circle;
 use crate::arc::chord;
 use crate::arc::ends_meet;
+use plane::FUZZ;
 use plane::PlineVertex;
 use plane::Vector2;
 use plane::min_max;
@@ -127,7 +128,7 @@ fn cross_box(ends: Bounds, circle: Circle, c: Crossings) -> Bounds
 fn arc_box(v1: PlineVertex, v2: PlineVertex, ends: Bounds, c: Crossings) -> Bounds
     ensures { λ r. ⌜ r ≡ arcBoxBy double v1 v2 ends c ⌝ }
 {
-    if ends_meet(v1, v2) {
+    if ends_meet(v1, v2, FUZZ) {
         return Bounds {
             min_x: v1.x,
             min_y: v1.y,
