@@ -67,28 +67,6 @@ fn falling(a: f64, b: f64) -> bool
     a > 0.0 && b < 0.0
 }
 
-// The radius vector at the start, times 4 * bulge.
-fn start_radius(v1: PlineVertex, v2: PlineVertex) -> Vector2
-    ensures { λ r. ⌜ r ≡ startRadius double v1 v2 ⌝ }
-{
-    let bulge = v1.bulge;
-    let c = chord(v1, v2);
-    c.perp()
-        .scale(bulge * bulge - 1.0)
-        .sub(c.scale(2.0 * bulge))
-}
-
-// The radius vector at the end, times 4 * bulge.
-fn end_radius(v1: PlineVertex, v2: PlineVertex) -> Vector2
-    ensures { λ r. ⌜ r ≡ endRadius double v1 v2 ⌝ }
-{
-    let bulge = v1.bulge;
-    let c = chord(v1, v2);
-    c.perp()
-        .scale(bulge * bulge - 1.0)
-        .add(c.scale(2.0 * bulge))
-}
-
 fn find_crossings(start: Vector2, end: Vector2) -> Crossings
     ensures { λ r. ⌜ r ≡ crossingsOf double start end ⌝ }
 {
@@ -98,6 +76,17 @@ fn find_crossings(start: Vector2, end: Vector2) -> Crossings
         top: falling(start.x, end.x),
         bottom: rising(start.x, end.x),
     }
+}
+
+// By the radius vectors at the start and at the end, times 4 * bulge.
+fn arc_crossings(v1: PlineVertex, v2: PlineVertex) -> Crossings
+    ensures { λ r. ⌜ r ≡ crossingsOf double (startRadius double v1 v2) (endRadius double v1 v2) ⌝ }
+{
+    let bulge = v1.bulge;
+    let c = chord(v1, v2);
+    let scaled_perp = c.perp().scale(bulge * bulge - 1.0);
+    let scaled_chord = c.scale(2.0 * bulge);
+    find_crossings(scaled_perp.sub(scaled_chord), scaled_perp.add(scaled_chord))
 }
 
 fn crosses(c: Crossings) -> bool
@@ -145,8 +134,7 @@ fn arc_box(v1: PlineVertex, v2: PlineVertex, ends: Bounds, c: Crossings) -> Boun
 fn arc_seg_bounding_box(v1: PlineVertex, v2: PlineVertex) -> Bounds
     ensures { λ r. ⌜ r ≡ arcBox double v1 v2 ⌝ }
 {
-    let c = find_crossings(start_radius(v1, v2), end_radius(v1, v2));
-    arc_box(v1, v2, ends_box(v1, v2), c)
+    arc_box(v1, v2, ends_box(v1, v2), arc_crossings(v1, v2))
 }
 
 fn true_box(v1: PlineVertex, v2: PlineVertex) -> Bounds
