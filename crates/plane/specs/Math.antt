@@ -35,11 +35,11 @@ module _ (g : Grade) where
 
   -- "Line closest point uses the two end tests seen in seg_distance_is_greater_than, and between them is the start plus the chord scaled by
   -- projection over squared chord length."
-  abbrev pub lineNearest : Vector2 → Vector2 → Vector2 → Vector2
-  lineNearest start end point =
-      let chord = vsubOf g end start in
-      let projection = dotOf g (vsubOf g point start) chord in
-      let chordSq = lengthSqOf g chord in
+  abbrev pub lineNearestBy : Vector2 → Vector2 → Vector2 → Float → Float → Vector2
+  lineNearestBy start end chord chordSq projection =
       cond (lt projection fuzz) start
       (cond (lt chordSq (projection ⊕ fuzz)) end
       (vaddOf g start (scaleOf g chord (projection ⊘ chordSq))))
+
+  abbrev pub lineNearest : Vector2 → Vector2 → Vector2 → Vector2
+  lineNearest start end point = let chord = vsubOf g end start in lineNearestBy start end chord (lengthSqOf g chord) (dotOf g (vsubOf g point start) chord)

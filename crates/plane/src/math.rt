@@ -1,8 +1,9 @@
 // Helpers that the crate's published text names and does not hold: document 01's working rules.
+use crate::fuzzy::FUZZ;
 use crate::vector2::Vector2;
 ghost use mathlib.Core.Path.{_≡_};
 ghost use Rattle.plane.specs.Grade.{double};
-ghost use Rattle.plane.specs.Math.{distSqOf, midpointOf, minMaxOf, inSweep, lineNearest};
+ghost use Rattle.plane.specs.Math.{distSqOf, midpointOf, minMaxOf, sweepOf, inSweep, lineNearestBy, lineNearest};
 
 pub struct MinMax {
     pub min: f64,
@@ -35,6 +36,16 @@ pub fn midpoint(a: Vector2, b: Vector2) -> Vector2
     }
 }
 
+// Whether two perpendicular dots, of start and end with a point, are those of a point in the sweep.
+fn in_sweep(clockwise: bool, a: f64, b: f64, eps: f64) -> bool
+    ensures { λ r. ⌜ r ≡ sweepOf clockwise a b eps ⌝ }
+{
+    if clockwise {
+        return a < eps && b > -eps;
+    }
+    a > -eps && b < eps
+}
+
 // Whether a point lies in the sweep of an arc.
 pub fn point_within_arc_sweep(
     center: Vector2,
@@ -49,10 +60,26 @@ pub fn point_within_arc_sweep(
     let offset = point.sub(center);
     let a = start.sub(center).perp_dot(offset);
     let b = end.sub(center).perp_dot(offset);
-    if clockwise {
-        return a < eps && b > -eps;
+    in_sweep(clockwise, a, b, eps)
+}
+
+// The closest point of a line segment, with its chord, the chord's squared length and the projection at hand.
+fn line_closest(
+    start: Vector2,
+    end: Vector2,
+    chord: Vector2,
+    chord_length_squared: f64,
+    projection: f64,
+) -> Vector2
+    ensures { λ r. ⌜ r ≡ lineNearestBy double start end chord «chord_length_squared» projection ⌝ }
+{
+    if projection < FUZZ {
+        return start;
     }
-    a > -eps && b < eps
+    if chord_length_squared < projection + FUZZ {
+        return end;
+    }
+    start.add(chord.scale(projection / chord_length_squared))
 }
 
 // The point of a line segment that is closest to a point.
@@ -61,12 +88,5 @@ pub fn line_seg_closest_point(start: Vector2, end: Vector2, point: Vector2) -> V
 {
     let chord = end.sub(start);
     let projection = point.sub(start).dot(chord);
-    if projection < 1e-8 {
-        return start;
-    }
-    let chord_length_squared = chord.length_squared();
-    if chord_length_squared < projection + 1e-8 {
-        return end;
-    }
-    start.add(chord.scale(projection / chord_length_squared))
+    line_closest(start, end, chord, chord.length_squared(), projection)
 }

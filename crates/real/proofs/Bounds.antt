@@ -21,6 +21,7 @@ use borrow.Author.Tests.{ltb-false, ne-eqb}
 use Rattle.real.specs.Root.{absOf, count, isqrt, twiceRoot, rootOf}
 use Rattle.real.proofs.Squares.{sq-lt-back}
 use Rattle.real.proofs.Floor.{isqrt-floor}
+use Rattle.real.proofs.Values.{abs-odd}
 
 -- finite, of either sign, and of magnitude at most a
 pub data Within (a : ℕ) : Float → Type 0 where
@@ -165,17 +166,12 @@ value-from (inf s) k h = absurd h
 value-from (fin true m e) k h = absurd (true≢false (h .0))
 value-from (fin false m e) k h = from m e (le-of-eq (sym (h .1 ∙ one-mul (down e))))
 
-odd-signless : (d : ℕ) (s : Bool) (q k l : ℕ) → absOf (odd d s q k l) ≡ odd d false q k l
-unfolding odd absOf
-odd-signless d s zero k l = refl
-odd-signless d s (suc q) k l = refl
-
 units-signless : (f : Format) (s : Bool) (q k : ℕ) → absOf (units f s q k) ≡ units f false q k
 unfolding units
 units-signless f s q k = go (ltb (q * 2 ^ k) (2 ^ (low f + suc (emax f))))
   where
     go : (b : Bool) → absOf (cond b (odd (suc (prec f)) s q k (low f)) (inf s)) ≡ cond b (odd (suc (prec f)) false q k (low f)) (inf false)
-    go true = odd-signless (suc (prec f)) s q k (low f)
+    go true = abs-odd (suc (prec f)) s q k (low f)
     go false = unfold absOf in refl
 
 -- the size of ±a - ±b

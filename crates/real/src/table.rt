@@ -1,3 +1,4 @@
+// The roots that the whole-number root starts from.
 ghost use mathlib.Core.Path.{_≡_};
 ghost use Prim.Native.Nat.{_+_, _*_, _^_, _<_};
 ghost use Rattle.real.specs.Root.{isqrt};

@@ -1,5 +1,7 @@
 -- No second answer fits a promise: a reply tells its answer.
-use mathlib.Core.Path.{_≡_}
+use mathlib.Core.Path.{_≡_, refl}
+use Rattle.real.specs.Reply.{refused, given}
+use Rattle.real.proofs.Same.{told}
 use Rattle.seg.specs.Reply.{pointReply, boolReply}
 use Rattle.seg.specs.Arc.{arcReply}
 use Rattle.seg.specs.Split.{splitReply}
@@ -16,31 +18,16 @@ use Rattle.seg.specs.declared.bounds.BoxAnswer.{BoxAnswer}
 use Rattle.seg.specs.declared.bounds.BoxAnswer.the-variants as box
 
 pub point-same : (a b : PointAnswer) → pointReply a ≡ pointReply b → a ≡ b
-point-same (point.Given x) (point.Given y) e = cc
-point-same (point.Given x) (point.Refused m) e = cc
-point-same (point.Refused n) (point.Given y) e = cc
-point-same (point.Refused n) (point.Refused m) e = cc
+point-same = told (elim [ given x ↦ point.Given x | refused n ↦ point.Refused n ]) (elim [ point.Given x ↦ refl | point.Refused n ↦ refl ])
 
 pub bool-same : (a b : BoolAnswer) → boolReply a ≡ boolReply b → a ≡ b
-bool-same (bool.Given x) (bool.Given y) e = cc
-bool-same (bool.Given x) (bool.Refused m) e = cc
-bool-same (bool.Refused n) (bool.Given y) e = cc
-bool-same (bool.Refused n) (bool.Refused m) e = cc
+bool-same = told (elim [ given x ↦ bool.Given x | refused n ↦ bool.Refused n ]) (elim [ bool.Given x ↦ refl | bool.Refused n ↦ refl ])
 
 pub arc-same : (a b : ArcAnswer) → arcReply a ≡ arcReply b → a ≡ b
-arc-same (arc.Given x) (arc.Given y) e = cc
-arc-same (arc.Given x) (arc.Refused m) e = cc
-arc-same (arc.Refused n) (arc.Given y) e = cc
-arc-same (arc.Refused n) (arc.Refused m) e = cc
+arc-same = told (elim [ given x ↦ arc.Given x | refused n ↦ arc.Refused n ]) (elim [ arc.Given x ↦ refl | arc.Refused n ↦ refl ])
 
 pub split-same : (a b : SplitAnswer) → splitReply a ≡ splitReply b → a ≡ b
-split-same (split.Given x) (split.Given y) e = cc
-split-same (split.Given x) (split.Refused m) e = cc
-split-same (split.Refused n) (split.Given y) e = cc
-split-same (split.Refused n) (split.Refused m) e = cc
+split-same = told (elim [ given x ↦ split.Given x | refused n ↦ split.Refused n ]) (elim [ split.Given x ↦ refl | split.Refused n ↦ refl ])
 
 pub box-same : (a b : BoxAnswer) → boxReply a ≡ boxReply b → a ≡ b
-box-same (box.Given x) (box.Given y) e = cc
-box-same (box.Given x) (box.Refused m) e = cc
-box-same (box.Refused n) (box.Given y) e = cc
-box-same (box.Refused n) (box.Refused m) e = cc
+box-same = told (elim [ given x ↦ box.Given x | refused n ↦ box.Refused n ]) (elim [ box.Given x ↦ refl | box.Refused n ↦ refl ])

@@ -6,22 +6,22 @@ use Rattle.real.specs.Refusal.{badNumber, badTolerance}
 use Rattle.real.specs.Reply.{Reply, given, check}
 use Rattle.plane.specs.Grade.{Grade, Arith, arith}
 use Rattle.plane.specs.Vec.{vaddOf, vsubOf, scaleOf, lengthSqOf, vnearOf}
-use Rattle.plane.specs.Math.{distSqOf, inSweep, lineNearest}
+use Rattle.plane.specs.Math.{distSqOf, lineNearest}
 use Rattle.plane.specs.Vertex.{posOf, lineOf}
 use Rattle.plane.specs.Range.{tolOk, pointOk, segOk}
 use Rattle.plane.specs.declared.vector2.Vector2.{Vector2}
 use Rattle.plane.specs.declared.pline_vertex.PlineVertex.{PlineVertex}
-use Rattle.seg.specs.Arc.{chordOf, quarterOf, centerOf}
+use Rattle.seg.specs.Arc.{chordOf, invFourBulge, centerOf, sweepsOver}
 
 module _ (g : Grade) where
   infixl 6 _⊕_
   infixl 7 _⊗_ _⊘_
   open Arith (arith g) using (_⊕_, _⊗_, _⊘_)
-  open Grade g using (format, zero, one)
+  open Grade g using (format, one)
 
   -- `radius_to_radial_length`
   unfoldable pub radialScale : Float → Float → Float → Float
-  radialScale b chordSq radialSq = rootOf format (chordSq ⊘ radialSq) ⊗ (one ⊕ b ⊗ b) ⊗ absOf (quarterOf g b)
+  radialScale b chordSq radialSq = rootOf format (chordSq ⊘ radialSq) ⊗ (one ⊕ b ⊗ b) ⊗ absOf (invFourBulge g b)
 
   unfoldable pub radialOf : PlineVertex → PlineVertex → Vector2 → Vector2 → Vector2
   radialOf v1 v2 center p =
@@ -37,7 +37,7 @@ module _ (g : Grade) where
       let start = posOf v1 in
       let end = posOf v2 in
       cond (vnearOf g p center eps) start
-      (cond (inSweep g center start end (lt (v1 .bulge) zero) p eps) (radialOf v1 v2 center p)
+      (cond (sweepsOver g v1 v2 center p eps) (radialOf v1 v2 center p)
       (cond (nearerOf start end p) start end))
 
   module _ (limit : Float) where

@@ -6,18 +6,18 @@ use Rattle.real.specs.Refusal.{badNumber, badTolerance}
 use Rattle.real.specs.Reply.{Reply, given, check}
 use Rattle.plane.specs.Grade.{Grade, Arith, arith}
 use Rattle.plane.specs.Vec.{vsubOf, dotOf, perpDotOf, lengthSqOf, vnearOf}
-use Rattle.plane.specs.Math.{distSqOf, inSweep}
+use Rattle.plane.specs.Math.{distSqOf}
 use Rattle.plane.specs.Vertex.{posOf, lineOf}
 use Rattle.plane.specs.Range.{coordOk, tolOk, pointOk, segOk}
 use Rattle.plane.specs.declared.vector2.Vector2.{Vector2}
 use Rattle.plane.specs.declared.pline_vertex.PlineVertex.{PlineVertex}
-use Rattle.seg.specs.Arc.{radiusOf, centerOf}
+use Rattle.seg.specs.Arc.{radiusOf, centerOf, sweepsOver}
 
 module _ (g : Grade) where
   infixl 6 _⊕_ _⊖_
   infixl 7 _⊗_
   open Arith (arith g) using (_⊕_, _⊖_, _⊗_)
-  open Grade g using (zero, fuzz)
+  open Grade g using (fuzz)
 
   unfoldable pub lineFar : Vector2 → Vector2 → Vector2 → Float → Bool
   lineFar start end p d2 =
@@ -50,7 +50,7 @@ module _ (g : Grade) where
       let start = posOf v1 in
       let end = posOf v2 in
       cond (vnearOf g p center eps) (endFar start p (d ⊗ d))
-      (cond (not (inSweep g center start end (lt (v1 .bulge) zero) p eps)) (endsFar start end p (d ⊗ d))
+      (cond (not (sweepsOver g v1 v2 center p eps)) (endsFar start end p (d ⊗ d))
       (ringFar (radiusOf g v1 v2) (distSqOf g p center) d))
 
   module _ (limit : Float) where

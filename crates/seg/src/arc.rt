@@ -1,13 +1,17 @@
 // Radius and centre of an arc.
+use plane::FUZZ;
 use plane::PlineVertex;
 use plane::Vector2;
+use plane::point_within_arc_sweep;
 use plane::seg_in_range;
 use real::BAD_NUMBER;
 use real::NO_ARC;
 use real::magnitude;
 ghost use mathlib.Core.Path.{_≡_};
 ghost use Rattle.plane.specs.Grade.{double};
-ghost use Rattle.seg.specs.Arc.{arcReply, chordOf, quarterOf, radiusOf, centerOf, circleOf, segCircle};
+ghost use Rattle.plane.specs.Vec.{vnearOf};
+ghost use Rattle.plane.specs.Vertex.{posOf};
+ghost use Rattle.seg.specs.Arc.{arcReply, chordOf, invFourBulge, sweepsOver, radiusOf, centerOf, circleOf, segCircle};
 
 pub struct Circle {
     pub radius: f64,
@@ -25,8 +29,22 @@ pub fn chord(v1: PlineVertex, v2: PlineVertex) -> Vector2
     v2.pos().sub(v1.pos())
 }
 
+// Whether the two ends are fuzzily equal.
+pub fn ends_meet(v1: PlineVertex, v2: PlineVertex, eps: f64) -> bool
+    ensures { λ r. ⌜ r ≡ vnearOf double (posOf v1) (posOf v2) eps ⌝ }
+{
+    v1.pos().fuzzy_eq_eps(v2.pos(), eps)
+}
+
+// Whether a point lies in the sweep of the arc about a centre.
+pub fn sweeps_over(v1: PlineVertex, v2: PlineVertex, center: Vector2, p: Vector2, eps: f64) -> bool
+    ensures { λ r. ⌜ r ≡ sweepsOver double v1 v2 center p eps ⌝ }
+{
+    point_within_arc_sweep(center, v1.pos(), v2.pos(), v1.bulge_is_neg(), p, eps)
+}
+
 pub fn inv_four_bulge(bulge: f64) -> f64
-    ensures { λ r. ⌜ r ≡ quarterOf double bulge ⌝ }
+    ensures { λ r. ⌜ r ≡ invFourBulge double bulge ⌝ }
 {
     1.0 / (4.0 * bulge)
 }
@@ -61,15 +79,13 @@ pub fn arc_circle(v1: PlineVertex, v2: PlineVertex) -> Circle
 pub fn seg_arc_radius_and_center(v1: PlineVertex, v2: PlineVertex) -> ArcAnswer
     ensures { λ r. ⌜ arcReply r ≡ segCircle double (double .line) v1 v2 ⌝ }
 {
-    let start = Vector2 { x: v1.x, y: v1.y };
-    let end = Vector2 { x: v2.x, y: v2.y };
     if !seg_in_range(v1, v2) {
         return ArcAnswer::Refused(BAD_NUMBER);
     }
     if v1.bulge_is_zero() {
         return ArcAnswer::Refused(NO_ARC);
     }
-    if start.fuzzy_eq(end) {
+    if ends_meet(v1, v2, FUZZ) {
         return ArcAnswer::Refused(NO_ARC);
     }
     ArcAnswer::Given(arc_circle(v1, v2))

@@ -2,6 +2,8 @@
 use crate::arc::Circle;
 use crate::arc::arc_circle;
 use crate::arc::chord;
+use crate::arc::ends_meet;
+use plane::FUZZ;
 use plane::PlineVertex;
 use plane::Vector2;
 use plane::min_max;
@@ -10,6 +12,7 @@ use real::BAD_NUMBER;
 ghost use mathlib.Core.Path.{_≡_};
 ghost use mathlib.Core.Bool.{cond};
 ghost use Rattle.plane.specs.Grade.{double};
+ghost use Rattle.plane.specs.Vertex.{posOf};
 ghost use Rattle.seg.specs.Bounds.{boxReply, lineBox, rises, falls, crossingsOf, anyOf, startRadius, endRadius, crossBox, arcBoxBy, arcBox, boxOf, segBox, downBy, upBy, arcFastBox, fastBox, segFastBox};
 
 pub struct Bounds {
@@ -45,6 +48,13 @@ fn line_seg_bounding_box(start: Vector2, end: Vector2) -> Bounds
     }
 }
 
+// The box of the ends.
+fn ends_box(v1: PlineVertex, v2: PlineVertex) -> Bounds
+    ensures { λ r. ⌜ r ≡ lineBox (posOf v1) (posOf v2) ⌝ }
+{
+    line_seg_bounding_box(v1.pos(), v2.pos())
+}
+
 fn rising(a: f64, b: f64) -> bool
     ensures { λ r. ⌜ r ≡ rises double a b ⌝ }
 {
@@ -57,28 +67,6 @@ fn falling(a: f64, b: f64) -> bool
     a > 0.0 && b < 0.0
 }
 
-// The radius vector at the start, times 4 * bulge.
-fn start_radius(v1: PlineVertex, v2: PlineVertex) -> Vector2
-    ensures { λ r. ⌜ r ≡ startRadius double v1 v2 ⌝ }
-{
-    let bulge = v1.bulge;
-    let c = chord(v1, v2);
-    c.perp()
-        .scale(bulge * bulge - 1.0)
-        .sub(c.scale(2.0 * bulge))
-}
-
-// The radius vector at the end, times 4 * bulge.
-fn end_radius(v1: PlineVertex, v2: PlineVertex) -> Vector2
-    ensures { λ r. ⌜ r ≡ endRadius double v1 v2 ⌝ }
-{
-    let bulge = v1.bulge;
-    let c = chord(v1, v2);
-    c.perp()
-        .scale(bulge * bulge - 1.0)
-        .add(c.scale(2.0 * bulge))
-}
-
 fn find_crossings(start: Vector2, end: Vector2) -> Crossings
     ensures { λ r. ⌜ r ≡ crossingsOf double start end ⌝ }
 {
@@ -88,6 +76,17 @@ fn find_crossings(start: Vector2, end: Vector2) -> Crossings
         top: falling(start.x, end.x),
         bottom: rising(start.x, end.x),
     }
+}
+
+// By the radius vectors at the start and at the end, times 4 * bulge.
+fn arc_crossings(v1: PlineVertex, v2: PlineVertex) -> Crossings
+    ensures { λ r. ⌜ r ≡ crossingsOf double (startRadius double v1 v2) (endRadius double v1 v2) ⌝ }
+{
+    let bulge = v1.bulge;
+    let c = chord(v1, v2);
+    let scaled_perp = c.perp().scale(bulge * bulge - 1.0);
+    let scaled_chord = c.scale(2.0 * bulge);
+    find_crossings(scaled_perp.sub(scaled_chord), scaled_perp.add(scaled_chord))
 }
 
 fn crosses(c: Crossings) -> bool
@@ -118,9 +117,7 @@ fn cross_box(ends: Bounds, circle: Circle, c: Crossings) -> Bounds
 fn arc_box(v1: PlineVertex, v2: PlineVertex, ends: Bounds, c: Crossings) -> Bounds
     ensures { λ r. ⌜ r ≡ arcBoxBy double v1 v2 ends c ⌝ }
 {
-    let start = Vector2 { x: v1.x, y: v1.y };
-    let end = Vector2 { x: v2.x, y: v2.y };
-    if start.fuzzy_eq(end) {
+    if ends_meet(v1, v2, FUZZ) {
         return Bounds {
             min_x: v1.x,
             min_y: v1.y,
@@ -137,18 +134,14 @@ fn arc_box(v1: PlineVertex, v2: PlineVertex, ends: Bounds, c: Crossings) -> Boun
 fn arc_seg_bounding_box(v1: PlineVertex, v2: PlineVertex) -> Bounds
     ensures { λ r. ⌜ r ≡ arcBox double v1 v2 ⌝ }
 {
-    let ends = line_seg_bounding_box(v1.pos(), v2.pos());
-    let c = find_crossings(start_radius(v1, v2), end_radius(v1, v2));
-    arc_box(v1, v2, ends, c)
+    arc_box(v1, v2, ends_box(v1, v2), arc_crossings(v1, v2))
 }
 
 fn true_box(v1: PlineVertex, v2: PlineVertex) -> Bounds
     ensures { λ r. ⌜ r ≡ boxOf double (double .line) v1 v2 ⌝ }
 {
     if v1.bulge_is_zero() {
-        let start = Vector2 { x: v1.x, y: v1.y };
-        let end = Vector2 { x: v2.x, y: v2.y };
-        return line_seg_bounding_box(start, end);
+        return ends_box(v1, v2);
     }
     arc_seg_bounding_box(v1, v2)
 }
@@ -179,7 +172,7 @@ fn up(edge: f64, offset: f64) -> f64
 fn arc_fast_box(v1: PlineVertex, v2: PlineVertex) -> Bounds
     ensures { λ r. ⌜ r ≡ arcFastBox double v1 v2 ⌝ }
 {
-    let ends = line_seg_bounding_box(v1.pos(), v2.pos());
+    let ends = ends_box(v1, v2);
     let half_bulge = v1.bulge / 2.0;
     let offset_x = half_bulge * (v2.y - v1.y);
     let offset_y = -half_bulge * (v2.x - v1.x);
@@ -195,9 +188,7 @@ fn fast_box(v1: PlineVertex, v2: PlineVertex) -> Bounds
     ensures { λ r. ⌜ r ≡ fastBox double (double .line) v1 v2 ⌝ }
 {
     if v1.bulge_is_zero() {
-        let start = Vector2 { x: v1.x, y: v1.y };
-        let end = Vector2 { x: v2.x, y: v2.y };
-        return line_seg_bounding_box(start, end);
+        return ends_box(v1, v2);
     }
     arc_fast_box(v1, v2)
 }

@@ -3,12 +3,12 @@ use crate::answer::PointAnswer;
 use crate::arc::arc_center;
 use crate::arc::chord;
 use crate::arc::inv_four_bulge;
+use crate::arc::sweeps_over;
 use plane::PlineVertex;
 use plane::Vector2;
 use plane::dist_squared;
 use plane::line_seg_closest_point;
 use plane::point_in_range;
-use plane::point_within_arc_sweep;
 use plane::seg_in_range;
 use plane::tol_in_range;
 use real::BAD_NUMBER;
@@ -17,6 +17,7 @@ use real::magnitude;
 use real::root;
 ghost use mathlib.Core.Path.{_≡_};
 ghost use Rattle.plane.specs.Grade.{double};
+ghost use Rattle.plane.specs.Vertex.{posOf};
 ghost use Rattle.seg.specs.Reply.{pointReply};
 ghost use Rattle.seg.specs.Closest.{radialScale, radialOf, nearerOf, arcClosest, closestOf, segClosest};
 
@@ -37,28 +38,27 @@ fn radial_point(v1: PlineVertex, v2: PlineVertex, center: Vector2, p: Vector2) -
     radial.scale(k).add(center)
 }
 
-fn nearer(a: Vector2, b: Vector2, p: Vector2) -> bool
-    ensures { λ r. ⌜ r ≡ nearerOf double a b p ⌝ }
+// Whether the first vertex is the nearer one.
+fn nearer(a: PlineVertex, b: PlineVertex, p: Vector2) -> bool
+    ensures { λ r. ⌜ r ≡ nearerOf double (posOf a) (posOf b) p ⌝ }
 {
-    dist_squared(a, p) < dist_squared(b, p)
+    dist_squared(a.pos(), p) < dist_squared(b.pos(), p)
 }
 
 // The arc's case, with the centre at hand.
 fn arc_closest(v1: PlineVertex, v2: PlineVertex, center: Vector2, p: Vector2, eps: f64) -> Vector2
     ensures { λ r. ⌜ r ≡ arcClosest double v1 v2 center p eps ⌝ }
 {
-    let start = Vector2 { x: v1.x, y: v1.y };
-    let end = Vector2 { x: v2.x, y: v2.y };
     if p.fuzzy_eq_eps(center, eps) {
-        return start;
+        return v1.pos();
     }
-    if point_within_arc_sweep(center, start, end, v1.bulge < 0.0, p, eps) {
+    if sweeps_over(v1, v2, center, p, eps) {
         return radial_point(v1, v2, center, p);
     }
-    if nearer(start, end, p) {
-        return start;
+    if nearer(v1, v2, p) {
+        return v1.pos();
     }
-    end
+    v2.pos()
 }
 
 // The closest point, for any numbers and any tolerance.
@@ -66,9 +66,7 @@ pub fn closest_point(v1: PlineVertex, v2: PlineVertex, p: Vector2, eps: f64) -> 
     ensures { λ r. ⌜ r ≡ closestOf double (double .line) v1 v2 p eps ⌝ }
 {
     if v1.bulge_is_zero() {
-        let start = Vector2 { x: v1.x, y: v1.y };
-        let end = Vector2 { x: v2.x, y: v2.y };
-        return line_seg_closest_point(start, end, p);
+        return line_seg_closest_point(v1.pos(), v2.pos(), p);
     }
     arc_closest(v1, v2, arc_center(v1, v2), p, eps)
 }

@@ -2,12 +2,13 @@
 use crate::answer::BoolAnswer;
 use crate::arc::arc_center;
 use crate::arc::arc_radius;
+use crate::arc::sweeps_over;
+use plane::FUZZ;
 use plane::PlineVertex;
 use plane::Vector2;
 use plane::coord_in_range;
 use plane::dist_squared;
 use plane::point_in_range;
-use plane::point_within_arc_sweep;
 use plane::seg_in_range;
 use plane::tol_in_range;
 use real::BAD_NUMBER;
@@ -15,6 +16,7 @@ use real::BAD_TOLERANCE;
 use real::magnitude;
 ghost use mathlib.Core.Path.{_≡_};
 ghost use Rattle.plane.specs.Grade.{double};
+ghost use Rattle.plane.specs.Vertex.{posOf};
 ghost use Rattle.seg.specs.Reply.{boolReply};
 ghost use Rattle.seg.specs.Distance.{lineFar, ringFar, endFar, endsFar, arcFar, farOf, segFar};
 
@@ -25,11 +27,11 @@ fn line_far(start: Vector2, end: Vector2, p: Vector2, d2: f64) -> bool
     let chord = end.sub(start);
     let point_offset = p.sub(start);
     let projection = point_offset.dot(chord);
-    if projection < 1e-8 {
+    if projection < FUZZ {
         return point_offset.length_squared() > d2;
     }
     let chord_length_squared = chord.length_squared();
-    if chord_length_squared < projection + 1e-8 {
+    if chord_length_squared < projection + FUZZ {
         return p.sub(end).length_squared() > d2;
     }
     let cross = point_offset.perp_dot(chord);
@@ -51,29 +53,27 @@ fn ring_far(radius: f64, r2: f64, distance: f64) -> bool
     r2 < inner_radius * inner_radius
 }
 
-fn end_far(end: Vector2, p: Vector2, d2: f64) -> bool
-    ensures { λ r. ⌜ r ≡ endFar double end p d2 ⌝ }
+fn end_far(end: PlineVertex, p: Vector2, d2: f64) -> bool
+    ensures { λ r. ⌜ r ≡ endFar double (posOf end) p d2 ⌝ }
 {
-    dist_squared(end, p) > d2
+    dist_squared(end.pos(), p) > d2
 }
 
-fn ends_far(start: Vector2, end: Vector2, p: Vector2, d2: f64) -> bool
-    ensures { λ r. ⌜ r ≡ endsFar double start end p d2 ⌝ }
+fn ends_far(v1: PlineVertex, v2: PlineVertex, p: Vector2, d2: f64) -> bool
+    ensures { λ r. ⌜ r ≡ endsFar double (posOf v1) (posOf v2) p d2 ⌝ }
 {
-    end_far(start, p, d2) && end_far(end, p, d2)
+    end_far(v1, p, d2) && end_far(v2, p, d2)
 }
 
 // The arc's case, with the centre at hand.
 fn arc_far(v1: PlineVertex, v2: PlineVertex, center: Vector2, p: Vector2, d: f64, eps: f64) -> bool
     ensures { λ r. ⌜ r ≡ arcFar double v1 v2 center p d eps ⌝ }
 {
-    let start = Vector2 { x: v1.x, y: v1.y };
-    let end = Vector2 { x: v2.x, y: v2.y };
     if p.fuzzy_eq_eps(center, eps) {
-        return end_far(start, p, d * d);
+        return end_far(v1, p, d * d);
     }
-    if !point_within_arc_sweep(center, start, end, v1.bulge < 0.0, p, eps) {
-        return ends_far(start, end, p, d * d);
+    if !sweeps_over(v1, v2, center, p, eps) {
+        return ends_far(v1, v2, p, d * d);
     }
     ring_far(arc_radius(v1, v2), dist_squared(p, center), d)
 }
@@ -83,9 +83,7 @@ fn far(v1: PlineVertex, v2: PlineVertex, p: Vector2, d: f64, eps: f64) -> bool
     ensures { λ r. ⌜ r ≡ farOf double (double .line) v1 v2 p d eps ⌝ }
 {
     if v1.bulge_is_zero() {
-        let start = Vector2 { x: v1.x, y: v1.y };
-        let end = Vector2 { x: v2.x, y: v2.y };
-        return line_far(start, end, p, d * d);
+        return line_far(v1.pos(), v2.pos(), p, d * d);
     }
     arc_far(v1, v2, arc_center(v1, v2), p, d, eps)
 }

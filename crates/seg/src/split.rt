@@ -1,5 +1,6 @@
 // The split of a segment at a point.
 use crate::arc::chord;
+use crate::arc::ends_meet;
 use plane::PlineVertex;
 use plane::Vector2;
 use plane::point_in_range;
@@ -10,7 +11,10 @@ use real::BAD_TOLERANCE;
 use real::magnitude;
 use real::root;
 ghost use mathlib.Core.Path.{_≡_};
+ghost use lib.Ieee.{lt};
 ghost use Rattle.plane.specs.Grade.{double};
+ghost use Rattle.plane.specs.Vec.{vnearOf};
+ghost use Rattle.plane.specs.Vertex.{posOf};
 ghost use Rattle.seg.specs.Split.{splitReply, splitAt, signedOf, halfSine, partBulge, otherBulge, ratioSq, splitChords, splitArc, splitOf, segSplit};
 
 pub struct SplitResult {
@@ -32,19 +36,19 @@ fn sin_half_sweep(squared: f64) -> f64
     root(squared)
 }
 
-fn signed(negative: bool, m: f64) -> f64
-    ensures { λ r. ⌜ r ≡ signedOf negative m ⌝ }
+fn signed(v1: PlineVertex, m: f64) -> f64
+    ensures { λ r. ⌜ r ≡ signedOf (lt (v1 .bulge) (double .zero)) m ⌝ }
 {
-    if negative { -m } else { m }
+    if v1.bulge_is_neg() { -m } else { m }
 }
 
 // The closure of the crate's split: what it captures is passed in.
-fn bulge_from_chord_length_squared(negative: bool, part: f64, whole: f64, ratio: f64) -> f64
-    ensures { λ r. ⌜ r ≡ partBulge double negative part whole ratio ⌝ }
+fn bulge_from_chord_length_squared(v1: PlineVertex, part: f64, whole: f64, ratio: f64) -> f64
+    ensures { λ r. ⌜ r ≡ partBulge double (lt (v1 .bulge) (double .zero)) part whole ratio ⌝ }
 {
     let s = sin_half_sweep(part / whole * ratio);
     let c = root((1.0 - s) * (1.0 + s));
-    signed(negative, s / (1.0 + c))
+    signed(v1, s / (1.0 + c))
 }
 
 fn other_bulge(b: f64, b1: f64) -> f64
@@ -61,17 +65,18 @@ fn diameter_ratio_squared(bulge: f64) -> f64
     ratio * ratio
 }
 
-fn split_at(start: Vector2, b1: f64, point: Vector2, b2: f64) -> SplitResult
-    ensures { λ r. ⌜ r ≡ splitAt start b1 point b2 ⌝ }
+// The start stays, with a bulge of its own.
+fn split_at(v1: PlineVertex, b1: f64, p: Vector2, b2: f64) -> SplitResult
+    ensures { λ r. ⌜ r ≡ splitAt (posOf v1) b1 p b2 ⌝ }
 {
     let updated_start = PlineVertex {
-        x: start.x,
-        y: start.y,
+        x: v1.x,
+        y: v1.y,
         bulge: b1,
     };
     let split_vertex = PlineVertex {
-        x: point.x,
-        y: point.y,
+        x: p.x,
+        y: p.y,
         bulge: b2,
     };
     SplitResult {
@@ -80,19 +85,44 @@ fn split_at(start: Vector2, b1: f64, point: Vector2, b2: f64) -> SplitResult
     }
 }
 
+// The start is put on top of the split vertex.
+fn split_at_start(v1: PlineVertex, p: Vector2) -> SplitResult
+    ensures { λ r. ⌜ r ≡ splitAt p (double .zero) p (v1 .bulge) ⌝ }
+{
+    let updated_start = PlineVertex {
+        x: p.x,
+        y: p.y,
+        bulge: 0.0,
+    };
+    split_at(updated_start, 0.0, p, v1.bulge)
+}
+
+// The split vertex is put on the end.
+fn split_at_end(v1: PlineVertex, v2: PlineVertex) -> SplitResult
+    ensures { λ r. ⌜ r ≡ splitAt (posOf v1) (v1 .bulge) (posOf v2) (double .zero) ⌝ }
+{
+    split_at(v1, v1.bulge, v2.pos(), 0.0)
+}
+
+// Whether a vertex lies at a point.
+fn lies_at(v: PlineVertex, p: Vector2, eps: f64) -> bool
+    ensures { λ r. ⌜ r ≡ vnearOf double (posOf v) p eps ⌝ }
+{
+    v.pos().fuzzy_eq_eps(p, eps)
+}
+
 // The two bulges, the smaller chord's first.
 fn split_chords(v1: PlineVertex, p: Vector2, whole: f64, chord1: f64, chord2: f64) -> SplitResult
     ensures { λ r. ⌜ r ≡ splitChords double v1 p whole chord1 chord2 ⌝ }
 {
     let b = v1.bulge;
-    let start = Vector2 { x: v1.x, y: v1.y };
     let ratio = diameter_ratio_squared(b);
     if chord1 <= chord2 {
-        let b1 = bulge_from_chord_length_squared(b < 0.0, chord1, whole, ratio);
-        return split_at(start, b1, p, other_bulge(b, b1));
+        let b1 = bulge_from_chord_length_squared(v1, chord1, whole, ratio);
+        return split_at(v1, b1, p, other_bulge(b, b1));
     }
-    let b2 = bulge_from_chord_length_squared(b < 0.0, chord2, whole, ratio);
-    split_at(start, other_bulge(b, b2), p, b2)
+    let b2 = bulge_from_chord_length_squared(v1, chord2, whole, ratio);
+    split_at(v1, other_bulge(b, b2), p, b2)
 }
 
 fn split_arc(v1: PlineVertex, v2: PlineVertex, p: Vector2) -> SplitResult
@@ -108,19 +138,17 @@ fn split_arc(v1: PlineVertex, v2: PlineVertex, p: Vector2) -> SplitResult
 pub fn split_at_point(v1: PlineVertex, v2: PlineVertex, p: Vector2, eps: f64) -> SplitResult
     ensures { λ r. ⌜ r ≡ splitOf double (double .line) v1 v2 p eps ⌝ }
 {
-    let start = Vector2 { x: v1.x, y: v1.y };
-    let end = Vector2 { x: v2.x, y: v2.y };
     if v1.bulge_is_zero() {
-        return split_at(start, v1.bulge, p, 0.0);
+        return split_at(v1, v1.bulge, p, 0.0);
     }
-    if start.fuzzy_eq_eps(end, eps) {
-        return split_at(p, 0.0, p, v1.bulge);
+    if ends_meet(v1, v2, eps) {
+        return split_at_start(v1, p);
     }
-    if start.fuzzy_eq_eps(p, eps) {
-        return split_at(p, 0.0, p, v1.bulge);
+    if lies_at(v1, p, eps) {
+        return split_at_start(v1, p);
     }
-    if end.fuzzy_eq_eps(p, eps) {
-        return split_at(start, v1.bulge, end, 0.0);
+    if lies_at(v2, p, eps) {
+        return split_at_end(v1, v2);
     }
     split_arc(v1, v2, p)
 }

@@ -14,55 +14,43 @@ use Rattle.real.proofs.square_root.root.Tie as tie
 held : (c : tie.Start) → T (fits binary64 (c .args .x))
 held c = subst T (sym (c .good .0 .1)) tt
 
-float-to-bits-b : tie.Need-float-to-bits-b
-float-to-bits-b c = no-nan (c .before .args .x) (c .if1 .left)
-
-root-bits-requires : tie.Need-root-bits-requires
-root-bits-requires c κs = search needs
-
-float-from-bits-result : tie.Need-float-from-bits-result
-float-from-bits-result c = below-infinity binary64 (c .root-bits .result) (c .root-bits .ensures .0)
-
-returns : tie.Need-returns
-returns c = nan-root binary64 (c .before .args .x) (c .if1 .taken)
-
 returns-2 : tie.Need-returns-2
 returns-2 c =
-    let a = c .before .before .before in
-    own-root binary64 (a .args .x) 0 (held a) (sym (c .if3 .taken)) (root-zero binary64)
+    let at-start = c .before .before .before in
+    own-root binary64 (at-start .args .x) 0 (held at-start) (sym (c .if3 .taken)) (root-zero binary64)
 
 returns-3 : tie.Need-returns-3
 returns-3 c =
-    let a = c .before .before .before .before in
-    c .root-bits .ensures .1 ∙ ap (rootOf binary64) (pattern-of binary64 (a .args .x) (toBits binary64 (a .args .x)) (held a) refl)
+    let at-start = c .before .before .before .before in
+    c .root-bits .ensures .1 ∙ ap (rootOf binary64) (pattern-of binary64 (at-start .args .x) (toBits binary64 (at-start .args .x)) (held at-start) refl)
 
 returns-4 : tie.Need-returns-4
 returns-4 c =
-    let a = c .before .before .before in
-    own-root binary64 (a .args .x) 0x7ff0_0000_0000_0000 (held a) (sym (c .if4 .taken)) (root-infinity binary64)
+    let at-start = c .before .before .before in
+    own-root binary64 (at-start .args .x) 0x7ff0_0000_0000_0000 (held at-start) (sym (c .if4 .taken)) (root-infinity binary64)
 
 returns-5 : tie.Need-returns-5
 returns-5 c =
-    let a = c .before .before .before .before in
-    own-root binary64 (a .args .x) 0x8000_0000_0000_0000 (held a) (sym (c .if5 .taken)) (root-minus-zero binary64)
+    let at-start = c .before .before .before .before in
+    own-root binary64 (at-start .args .x) 0x8000_0000_0000_0000 (held at-start) (sym (c .if5 .taken)) (root-minus-zero binary64)
 
 returns-6 : tie.Need-returns-6
 returns-6 c =
-    let a = c .before .before .before .before in
-    let x = a .args .x in
+    let at-start = c .before .before .before .before in
+    let x = at-start .args .x in
     let b = toBits binary64 x in
     zero-by-zero binary64
-    ∙ sym (root-none binary64 b (pattern-lt binary64 x b (held a) refl) (omega arith) (c .if5 .left))
-    ∙ ap (rootOf binary64) (pattern-of binary64 x b (held a) refl)
+    ∙ sym (root-none binary64 b (pattern-lt binary64 x b (held at-start) refl) (omega arith) (c .if5 .left))
+    ∙ ap (rootOf binary64) (pattern-of binary64 x b (held at-start) refl)
 
 pub root-spec : {M : Type 1} → statement M
 root-spec =
     tie.close
     (tie.spec
-    returns
-    float-to-bits-b
-    root-bits-requires
-    float-from-bits-result
+    (λ c. nan-root binary64 (c .before .args .x) (c .if1 .taken))
+    (λ c. no-nan (c .before .args .x) (c .if1 .left))
+    (λ c κs. search needs)
+    (λ c. below-infinity binary64 (c .root-bits .result) (c .root-bits .ensures .0))
     returns-2
     returns-3
     returns-4

@@ -22,45 +22,6 @@ between c =
     (entry i (i - 32) (r .a) (c .tabled .ensures .0) (omega arith))
     (entry (suc i) (i - 32 + 1) (r .b) (c .tabled .ensures .1) (omega arith))
 
-sub-i : tie.Need-sub-i
-sub-i c = search needs
-
-tabled-requires : tie.Need-tabled-requires
-tabled-requires c κs = search needs
-
-sub-s : tie.Need-sub-s
-sub-s c = search needs
-
-mul-s : tie.Need-mul-s
-mul-s c = let h = between c in omega arith
-
-mul-s-2 : tie.Need-mul-s-2
-mul-s-2 c = let h = between c in omega arith
-
-add-s : tie.Need-add-s
-add-s c = let h = between c in omega arith
-
-mul-r : tie.Need-mul-r
-mul-r c = let h = between c in omega arith
-
-sub-r : tie.Need-sub-r
-sub-r c = let h = between c in omega arith
-
-mul-if1 : tie.Need-mul-if1
-mul-if1 c = let h = between c in omega arith
-
-add-t16 : tie.Need-add-t16
-add-t16 c = search needs
-
-mul-t17 : tie.Need-mul-t17
-mul-t17 c = search needs
-
-sub-t18 : tie.Need-sub-t18
-sub-t18 c = search needs
-
-sub-t19 : tie.Need-sub-t19
-sub-t19 c = search needs
-
 returns : tie.Need-returns
 returns c = let h = between (c .before) in one-more _ _ (h .low) (h .high) (c .if1 .taken)
 
@@ -71,18 +32,8 @@ pub first-spec : {M : Type 1} → statement M
 first-spec =
     tie.close
     (tie.spec
-    sub-i
-    tabled-requires
-    sub-s
-    mul-s
-    mul-s-2
-    add-s
-    mul-r
-    sub-r
-    mul-if1
-    add-t16
-    mul-t17
-    sub-t18
-    sub-t19
+    (λ c. search needs) (λ c κs. search needs) (λ c. search needs)
+    (λ c. let h = between c in omega arith) (λ c. let h = between c in omega arith) (λ c. let h = between c in omega arith) (λ c. let h = between c in omega arith) (λ c. let h = between c in omega arith) (λ c. let h = between c in omega arith)
+    (λ c. search needs) (λ c. search needs) (λ c. search needs) (λ c. search needs)
     returns
     returns-2)

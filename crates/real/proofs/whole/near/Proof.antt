@@ -15,9 +15,6 @@ all c = renamed (zeros (c .before .before .args .m) _ (c .before .whole .ensures
     zeros : (m x : ℕ) → x ≡ m → x * (2 ^ 26 * 2 ^ 26) + 0 * 2 ^ 26 + 0 ≡ m * 2 ^ 52
     zeros m x h = omega arith
 
-whole-requires : tie.Need-whole-requires
-whole-requires c κs = search needs
-
 extend-requires : tie.Need-extend-requires
 extend-requires c κs =
     let h = c .whole .ensures in
@@ -25,14 +22,12 @@ extend-requires c κs =
     let s-lt = root-lt _ _ _ (2 ^ 27) h (omega (arith, c .before .pre)) in
     (s-lt, (lit≤ tt, record { rest = h .rest; wide = omega arith; high = lit< tt; low = lit< tt }))
 
-add-result : tie.Need-add-result
-add-result c = search needs
-
-returns : tie.Need-returns
-returns c = near-up _ _ _ (all (c .before .before)) (c .if1 .taken)
-
 returns-2 : tie.Need-returns-2
-returns-2 c = near-down _ _ _ (omega (arith, c .before .before .before .before .pre)) (all (c .before .before)) (c .if1 .left)
+returns-2 c =
+    let at-extend = c .before .before in
+    near-down _ _ _ (omega (arith, at-extend .before .before .pre)) (all at-extend) (c .if1 .left)
 
 pub near-spec : {M : Type 1} → statement M
-near-spec = tie.close (tie.spec whole-requires extend-requires add-result returns returns-2)
+near-spec =
+    tie.close
+    (tie.spec (λ c κs. search needs) extend-requires (λ c. search needs) (λ c. near-up _ _ _ (all (c .before .before)) (c .if1 .taken)) returns-2)

@@ -6,4 +6,6 @@ use Rattle.seg.proofs.closest.arc_closest.Tie as tie
 
 pub arc-closest-spec : {M : Type 1} → statement M
 unfolding arcClosest
-arc-closest-spec = tie.close (tie.spec (λ c κs. tt) (λ c. search picks) (λ c κs. tt) (λ c κs. tt) (λ c. search picks) (λ c κs. tt) (λ c. search picks) (λ c. search picks))
+arc-closest-spec =
+    tie.close
+    (tie.spec (λ c κs. tt) (λ c κs. tt) (λ c. search picks) (λ c κs. tt) (λ c κs. tt) (λ c. search picks) (λ c κs. tt) (λ c κs. tt) (λ c. search picks) (λ c κs. tt) (λ c. search picks))

@@ -3,6 +3,16 @@ use Rattle.seg.specs.Closest.{radialOf}
 use Rattle.seg.proofs.closest.radial_point.Statement.{statement}
 use Rattle.seg.proofs.closest.radial_point.Tie as tie
 
-pub radial-point-spec : {M : Type 1} → statement M
+returns : tie.Need-returns
 unfolding radialOf
-radial-point-spec = tie.close (tie.spec (λ c κs. tt) (λ c κs. tt) (λ c κs. tt) (λ c κs. tt) (λ c κs. tt) (λ c κs. tt) (λ c κs. tt) (λ c. simp (c .before .before .before .before .before .before .sub .ensures, c .before .before .before .before .before .chord .ensures, c .before .before .before .before .length-squared .ensures, c .before .before .before .length-squared2 .ensures, c .before .before .radius-to-radial-length .ensures, c .before .scale .ensures, c .add .ensures)))
+returns c =
+    let at-scale = c .before in
+    let at-radius-to-radial-length = at-scale .before in
+    let at-length-squared2 = at-radius-to-radial-length .before in
+    let at-length-squared = at-length-squared2 .before in
+    let at-chord = at-length-squared .before in
+    let at-sub = at-chord .before in
+    simp (at-sub .sub .ensures, at-chord .chord .ensures, at-length-squared .length-squared .ensures, at-length-squared2 .length-squared2 .ensures, at-radius-to-radial-length .radius-to-radial-length .ensures, at-scale .scale .ensures, c .add .ensures)
+
+pub radial-point-spec : {M : Type 1} → statement M
+radial-point-spec = tie.close (tie.spec (λ c κs. tt) (λ c κs. tt) (λ c κs. tt) (λ c κs. tt) (λ c κs. tt) (λ c κs. tt) (λ c κs. tt) returns)

@@ -3,6 +3,12 @@ use Rattle.seg.specs.Closest.{radialScale}
 use Rattle.seg.proofs.closest.radius_to_radial_length.Statement.{statement}
 use Rattle.seg.proofs.closest.radius_to_radial_length.Tie as tie
 
-pub radius-to-radial-length-spec : {M : Type 1} → statement M
+returns : tie.Need-returns
 unfolding radialScale
-radius-to-radial-length-spec = tie.close (tie.spec (λ c κs. tt) (λ c κs. tt) (λ c κs. tt) (λ c. simp (c .before .before .root .ensures, c .before .inv-four-bulge .ensures, c .magnitude .ensures)))
+returns c =
+    let at-inv-four-bulge = c .before in
+    let at-root = at-inv-four-bulge .before in
+    simp (at-root .root .ensures, at-inv-four-bulge .inv-four-bulge .ensures, c .magnitude .ensures)
+
+pub radius-to-radial-length-spec : {M : Type 1} → statement M
+radius-to-radial-length-spec = tie.close (tie.spec (λ c κs. tt) (λ c κs. tt) (λ c κs. tt) returns)

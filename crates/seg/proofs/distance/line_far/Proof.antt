@@ -1,42 +1,43 @@
 -- The tests are the definition's, with each vector by its promise.
+use mathlib.Core.Path.{_≡_}
+use Rattle.plane.specs.Grade.{double}
+use Rattle.plane.specs.Vec.{vsubOf, dotOf}
 use Rattle.seg.specs.Distance.{lineFar}
 use Rattle.seg.proofs.distance.line_far.Statement.{statement}
 use Rattle.seg.proofs.distance.line_far.Tie as tie
 
-returns : tie.Need-returns
-unfolding lineFar
-returns c =
-    let e-sub = c .before .before .before .before .sub .ensures in
-    let e-sub2 = c .before .before .before .sub2 .ensures in
-    let e-dot = c .before .before .dot .ensures in
-    let t-1 = simp (e-sub, e-sub2, e-dot) at (c .before .if1 .taken) in
-    let e-length-squared = c .length-squared .ensures in
-    simp (e-sub2, t-1, e-length-squared)
+projected : (c : tie.After-dot) → let a = c .before .before .before .args in c .dot .result ≡ dotOf double (vsubOf double (a .p) (a .start)) (vsubOf double (a .end) (a .start))
+projected c = simp (c .before .before .sub .ensures, c .before .sub2 .ensures) at (c .dot .ensures)
 
-returns-2 : tie.Need-returns-2
+at-start : tie.Need-returns
 unfolding lineFar
-returns-2 c =
-    let e-sub = c .before .before .before .before .before .before .before .sub .ensures in
-    let e-sub2 = c .before .before .before .before .before .before .sub2 .ensures in
-    let e-dot = c .before .before .before .before .before .dot .ensures in
-    let t-1 = simp (e-sub, e-sub2, e-dot) at (c .before .before .before .before .if1 .left) in
-    let e-length-squared2 = c .before .before .before .length-squared2 .ensures in
-    let t-2 = simp (e-sub, e-sub2, e-dot, e-length-squared2) at (c .before .before .if2 .taken) in
-    let e-sub3 = c .before .sub3 .ensures in
-    let e-length-squared3 = c .length-squared3 .ensures in
-    simp (t-1, t-2, e-sub3, e-length-squared3)
+at-start c =
+    let at-if1 = c .before in
+    let at-dot = at-if1 .before in
+    simp (at-dot .before .sub2 .ensures, simp (projected at-dot) at (at-if1 .if1 .taken), c .length-squared .ensures)
 
-returns-3 : tie.Need-returns-3
+at-end : tie.Need-returns-2
 unfolding lineFar
-returns-3 c =
-    let e-sub = c .before .before .before .before .before .before .sub .ensures in
-    let e-sub2 = c .before .before .before .before .before .sub2 .ensures in
-    let e-dot = c .before .before .before .before .dot .ensures in
-    let t-1 = simp (e-sub, e-sub2, e-dot) at (c .before .before .before .if1 .left) in
-    let e-length-squared2 = c .before .before .length-squared2 .ensures in
-    let t-2 = simp (e-sub, e-sub2, e-dot, e-length-squared2) at (c .before .if2 .left) in
-    let e-perp-dot = c .perp-dot .ensures in
-    simp (e-sub, e-sub2, t-1, e-length-squared2, t-2, e-perp-dot)
+at-end c =
+    let at-sub3 = c .before in
+    let at-if2 = at-sub3 .before in
+    let at-length-squared2 = at-if2 .before in
+    let at-if1 = at-length-squared2 .before in
+    let at-dot = at-if1 .before in
+    let past1 = simp (projected at-dot) at (at-if1 .if1 .left) in
+    let past2 = simp (at-dot .before .before .sub .ensures, projected at-dot, at-length-squared2 .length-squared2 .ensures) at (at-if2 .if2 .taken) in
+    simp (past1, past2, at-sub3 .sub3 .ensures, c .length-squared3 .ensures)
+
+between : tie.Need-returns-3
+unfolding lineFar
+between c =
+    let at-if2 = c .before in
+    let at-length-squared2 = at-if2 .before in
+    let at-if1 = at-length-squared2 .before in
+    let at-dot = at-if1 .before in
+    let past1 = simp (projected at-dot) at (at-if1 .if1 .left) in
+    let past2 = simp (at-dot .before .before .sub .ensures, projected at-dot, at-length-squared2 .length-squared2 .ensures) at (at-if2 .if2 .left) in
+    simp (at-dot .before .before .sub .ensures, at-dot .before .sub2 .ensures, past1, at-length-squared2 .length-squared2 .ensures, past2, c .perp-dot .ensures)
 
 pub line-far-spec : {M : Type 1} → statement M
-line-far-spec = tie.close (tie.spec (λ c κs. tt) (λ c κs. tt) (λ c κs. tt) (λ c κs. tt) returns (λ c κs. tt) (λ c κs. tt) (λ c κs. tt) returns-2 (λ c κs. tt) returns-3)
+line-far-spec = tie.close (tie.spec (λ c κs. tt) (λ c κs. tt) (λ c κs. tt) (λ c κs. tt) at-start (λ c κs. tt) (λ c κs. tt) (λ c κs. tt) at-end (λ c κs. tt) between)

@@ -7,15 +7,20 @@ use Rattle.seg.proofs.distance.seg_distance_is_greater_than.Tie as tie
 answered : tie.Need-returns-5
 unfolding segFar
 answered c =
-    let past4 = c .before .before in
-    let past3 = past4 .before .before in
-    let past2 = past3 .before .before in
-    let past1 = past2 .before .before in
-    good _ (past1 .before .seg-in-range .ensures) (past1 .if1 .left)
-    (good _ (past2 .before .point-in-range .ensures) (past2 .if2 .left)
-    (good _ (past3 .before .coord-in-range .ensures) (past3 .if3 .left)
-    (good _ (past4 .before .tol-in-range .ensures) (past4 .if4 .left)
-    (given-is (rw (c .before .magnitude .ensures) at (c .far .ensures))))))
+    let at-magnitude = c .before in
+    let at-if4 = at-magnitude .before in
+    let at-tol-in-range = at-if4 .before in
+    let at-if3 = at-tol-in-range .before in
+    let at-coord-in-range = at-if3 .before in
+    let at-if2 = at-coord-in-range .before in
+    let at-point-in-range = at-if2 .before in
+    let at-if1 = at-point-in-range .before in
+    let at-seg-in-range = at-if1 .before in
+    good _ (at-seg-in-range .seg-in-range .ensures) (at-if1 .if1 .left)
+    (good _ (at-point-in-range .point-in-range .ensures) (at-if2 .if2 .left)
+    (good _ (at-coord-in-range .coord-in-range .ensures) (at-if3 .if3 .left)
+    (good _ (at-tol-in-range .tol-in-range .ensures) (at-if4 .if4 .left)
+    (given-is (rw (at-magnitude .magnitude .ensures) at (c .far .ensures))))))
 
 pub seg-distance-is-greater-than-spec : {M : Type 1} → statement M
 unfolding segFar

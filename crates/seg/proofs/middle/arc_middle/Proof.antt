@@ -3,6 +3,11 @@ use Rattle.seg.specs.Middle.{arcMid}
 use Rattle.seg.proofs.middle.arc_middle.Statement.{statement}
 use Rattle.seg.proofs.middle.arc_middle.Tie as tie
 
-pub arc-middle-spec : {M : Type 1} → statement M
+returns : tie.Need-returns
 unfolding arcMid
-arc-middle-spec = tie.close (tie.spec (λ c κs. tt) (λ c κs. tt) (λ c κs. tt) (λ c. simp (c .before .before .before .before .before .before .before .before .before .pos .ensures, c .before .before .before .before .before .before .before .before .pos2 .ensures, c .before .before .before .before .before .before .before .midpoint .ensures)))
+returns c =
+    let at-chord-midpoint = c .before .before .before .before .before .before .before in
+    simp (at-chord-midpoint .chord-midpoint .ensures)
+
+pub arc-middle-spec : {M : Type 1} → statement M
+arc-middle-spec = tie.close (tie.spec (λ c κs. tt) returns)
