@@ -2,7 +2,7 @@
 use mathlib.Core.Path.{_≡_, refl, ap}
 use mathlib.Core.Bool.{Bool, true, false, _&&_}
 use mathlib.Core.List.{List}
-use Prim.Native.Nat.{ℕ, _%_, _≤_}
+use Prim.Native.Nat.{ℕ, _%_, _<_, _≤_}
 use native.Mathlib.Omega.{arith}
 use lib.ListN.{length}
 use lib.Dec.{ltb, leb, eqb}
@@ -11,13 +11,13 @@ use borrow.Author.Tests.{ltb-true, leb-true, lt-ltb, le-leb}
 use Rattle.real.specs.Refusal.{badNumber, badOutline, badIndex, badOffset}
 use Rattle.real.specs.Reply.{Reply, refused, given, check}
 use Rattle.plane.specs.Grade.{Grade}
-use Rattle.plane.specs.Range.{mostVertices, wholeOutline}
-use Rattle.view.specs.Outline.{countOf, viewable, numbersOk}
+use Rattle.plane.specs.Range.{mostVertices, wholeOutline, vertexOk}
+use Rattle.view.specs.Outline.{vertexOf, countOf, viewable, numbersOk}
 use Rattle.view.specs.Record.{recordOk}
 use Rattle.view.specs.Needs.{Placed}
 use Rattle.view.specs.Check.{pass, placeOf, checkOf}
 use Rattle.view.specs.declared.view_data.PlineViewData.{PlineViewData}
-use Rattle.view.proofs.All.{and-both}
+use Rattle.view.proofs.All.{and-both, all-each}
 
 -- one link of a chain: it passed, so its test holds; it refused, and so does the link before any other rest
 pub check-passed : {A : Type 0} {b : Bool} {a : A} (n : ℕ) (rest : Reply A) → given a ≡ check b n rest → (b ≡ true) × (given a ≡ rest)
@@ -31,12 +31,17 @@ check-refused false m n rest rest′ f e = let q : m ≡ n = cc in ap refused q
 no-refusal : {A : Type 0} (m : ℕ) (rest : Reply A) → refused m ≡ pass → refused m ≡ rest
 no-refusal m rest e = let z : _≡_ {A = ℕ} 0 1 = cc in absurd (omega arith)
 
+pub few-of-whole : (s : List Float) → wholeOutline (length s) ≡ true → countOf s ≤ mostVertices
+unfolding wholeOutline
+few-of-whole s e = leb-true _ _ (and-both (eqb (length s % 3) 0) _ e .1)
+
 pub viewable-in : (s : List Float) → viewable s ≡ true → (2 ≤ countOf s) × (countOf s ≤ mostVertices)
-unfolding viewable wholeOutline
-viewable-in s e =
-    let a = and-both (wholeOutline (length s)) _ e in
-    let b = and-both (eqb (length s % 3) 0) _ (a .0) in
-    (leb-true _ _ (a .1), leb-true _ _ (b .1))
+unfolding viewable
+viewable-in s e = let a = and-both (wholeOutline (length s)) _ e in (leb-true _ _ (a .1), few-of-whole s (a .0))
+
+pub vertex-in : (g : Grade) (s : List Float) → numbersOk g s ≡ true → (k : ℕ) → k < countOf s → vertexOk g (vertexOf s k) ≡ true
+unfolding numbersOk
+vertex-in g s = all-each (λ k. vertexOk g (vertexOf s k)) (countOf s)
 
 module _ (s : List Float) (d : PlineViewData) where
   pub place-refused : {A : Type 0} (m : ℕ) (rest : Reply A) → refused m ≡ placeOf s d pass → refused m ≡ placeOf s d rest

@@ -17,14 +17,14 @@ use Rattle.plane.specs.Range.{coordOk, bulgeOk, pointOk, vertexOk}
 use Rattle.plane.specs.declared.pline_vertex.PlineVertex.{PlineVertex}
 use Rattle.lists.specs.Plain.{Vert, Step, turn, trim, stepList, rowList}
 use Rattle.lists.specs.View.{turnView, trimView}
-use Rattle.view.specs.Outline.{countOf, vertexOf, vertOf, srcOf, numbersOk}
+use Rattle.view.specs.Outline.{countOf, vertOf, srcOf}
 use Rattle.view.specs.Record.{viewOf, dataOf, vertices, needed, evenBits, listed, recordOk}
 use Rattle.view.specs.Answers.{listOf, listBuffer, bufferAfter, written, reverseOf, trimOf}
 use Rattle.view.specs.Rows.{after, step, row}
 use Rattle.view.specs.Demand3.{Unrefused, SameBits, Even, Lists, Kept, Demand3}
 use Rattle.view.specs.declared.view_data.PlineViewData.{PlineViewData}
-use Rattle.view.proofs.All.{and-both, all-each}
-use Rattle.view.proofs.Checks.{Checked, checked, checked-rest}
+use Rattle.view.proofs.All.{and-both}
+use Rattle.view.proofs.Checks.{Checked, checked, checked-rest, vertex-in}
 use Rattle.lists.proofs.Lists.{plain-steps}
 use Rattle.lists.proofs.Good.{InRange, Good, turn-good, trim-good}
 use Rattle.lists.proofs.Listing.{list-turn, list-trim, turn-twice, trim-after-turn, length-list}
@@ -85,10 +85,6 @@ module _ (g : Grade) (s : List Float) where
         even = g .even;
       }
 
-  sound : numbersOk g s ≡ true → (k : ℕ) → k < countOf s → InRange (C g) (B g) (srcOf s k)
-  unfolding numbersOk
-  sound e k h = vertex-range g (vertexOf s k) (all-each (λ i. vertexOk g (vertexOf s i)) (countOf s) e k h)
-
   -- the records that reversal and trim make
   abbrev turnOf : PlineViewData → PlineViewData
   turnOf d = dataOf (turnView (viewOf d))
@@ -133,7 +129,7 @@ module _ (g : Grade) (s : List Float) where
     turn-vertices = refl
 
     trim-fine : (i j : ℕ) → i < j → j < vertices d → Fine (partOf i j d)
-    trim-fine i j below within = fine d (partOf i j d) f (trim-good (C g) (B g) (g .zero) (srcOf s) (countOf s) (omega (arith, f .clear .placed)) (sound (f .clear .numbers)) (viewOf d) (good d f) i j below within)
+    trim-fine i j below within = fine d (partOf i j d) f (trim-good (C g) (B g) (g .zero) (srcOf s) (countOf s) (omega (arith, f .clear .placed)) (λ k h. vertex-range g _ (vertex-in g s (f .clear .numbers) k h)) (viewOf d) (good d f) i j below within)
 
     count : length (listed g s d) ≡ vertices d
     count = length-list neg (g .zero) (srcOf s) (countOf s) (viewOf d)
@@ -210,9 +206,11 @@ module _ (g : Grade) (s : List Float) where
   rows [] d f = kept d f
   rows (t ∷ ts) d f = let w = stepped t d f in subst (λ (l : List (Vert Float)). Kept g s (row g s ts (step g s t d)) (rowList neg (g .zero) ts l)) (w .lists-after) (rows ts (step g s t d) (w .fine-after))
 
+  -- a fine record has demand 3
+  pub fine-demand3 : (d : PlineViewData) → Fine d → Demand3 g s d
+  fine-demand3 d f = record { rows = λ ts. rows ts d f }
+
 -- demand 3
 pub demand3 : (g : Grade) (s : List Float) (d : PlineViewData) → Unrefused g s d → Even g d → Demand3 g s d
 unfolding listOf
-demand3 g s d u even =
-    let f : Fine g s d = record { clear = checked g s d _ (sym (u .answer)); even = λ e. same-bits g _ _ (even e) } in
-    record { rows = λ ts. rows g s ts d f }
+demand3 g s d u even = fine-demand3 g s d (record { clear = checked g s d _ (sym (u .answer)); even = λ e. same-bits g _ _ (even e) })

@@ -24,12 +24,12 @@ ghost use Rattle.plane.specs.Grade.{double};
 ghost use Rattle.plane.specs.Range.{pointOk, vertexOk};
 ghost use Rattle.view.specs.Outline.{numbersOk};
 ghost use Rattle.view.specs.Answers.{viewReply};
-ghost use Rattle.view.specs.Needs.{OnTop, Splits, Ends};
+ghost use Rattle.view.specs.Needs.{Index, Ends};
 ghost use Rattle.view.specs.Create.{endOnTop, endOnSegment, endingOf, endedAt, createOf};
 
 // The end on top of vertex `at`.
 fn end_on_top(source: &[f64], at: usize, b: f64, traverse: usize) -> Ending
-    requires { ⌜ OnTop (now source) at traverse ⌝ }
+    requires { ⌜ Ends (now source) at traverse ⌝ }
     ensures { λ r. ⌜ r ≡ endOnTop (now (source .entry)) at b traverse ⌝ }
 {
     let count = source.len() / 3;
@@ -46,7 +46,7 @@ fn end_on_top(source: &[f64], at: usize, b: f64, traverse: usize) -> Ending
 
 // The end on segment `at`, whose bulge is trimmed to the point.
 fn end_on_segment(source: &[f64], at: usize, p: Vector2, traverse: usize, eps: f64) -> Ending
-    requires { ⌜ Splits double (now source) at p eps ⌝ }
+    requires { ⌜ Index (now source) at ⌝ }
     ensures { λ r. ⌜ r ≡ endOnSegment double (double .line) (now (source .entry)) at p traverse eps ⌝ }
 {
     let count = source.len() / 3;
@@ -62,7 +62,7 @@ fn end_on_segment(source: &[f64], at: usize, p: Vector2, traverse: usize, eps: f
 
 // How the view ends, at a point on segment `at`.
 fn find_end(source: &[f64], p: Vector2, at: usize, b: f64, traverse: usize, eps: f64) -> Ending
-    requires { ⌜ Ends double (now source) at p traverse eps ⌝ }
+    requires { ⌜ Ends (now source) at traverse ⌝ }
     ensures { λ r. ⌜ r ≡ endingOf double (double .line) (now (source .entry)) p at b traverse eps ⌝ }
 {
     let v = vertex_at(source, at);
@@ -74,7 +74,7 @@ fn find_end(source: &[f64], p: Vector2, at: usize, b: f64, traverse: usize, eps:
 
 // The record, unless its offset is above the vertex count.
 fn ended_at(source: &[f64], start: usize, p: Vector2, first: PlineVertex, e: Ending) -> ViewAnswer
-    ensures { λ r. ⌜ viewReply r ≡ endedAt double (double .line) (now (source .entry)) start p first e ⌝ }
+    ensures { λ r. ⌜ viewReply r ≡ endedAt (now (source .entry)) start p first e ⌝ }
 {
     let offset = e.offset;
     if offset > source.len() / 3 {

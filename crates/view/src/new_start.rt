@@ -22,13 +22,13 @@ ghost use Rattle.plane.specs.Grade.{double};
 ghost use Rattle.plane.specs.Range.{pointOk};
 ghost use Rattle.view.specs.Outline.{countOf, numbersOk};
 ghost use Rattle.view.specs.Answers.{viewReply};
-ghost use Rattle.view.specs.Needs.{Index, Splits, Moved};
+ghost use Rattle.view.specs.Needs.{Index, Numbers};
 ghost use Rattle.view.specs.Create.{movedOn, roundEnding, roundFrom, newStartOf};
 
 // The segment that the view starts on: the next one for a point at the end of segment k.
 fn move_on(source: &[f64], p: Vector2, k: usize, eps: f64) -> usize
     requires { ⌜ Index (now source) k ⌝ }
-    ensures { λ r. ⌜ Moved (movedOn double (double .line) (now (source .entry)) p k eps) (countOf (now (source .entry))) r ⌝ }
+    ensures { λ r. ⌜ Numbers (movedOn double (now (source .entry)) p k eps) (countOf (now (source .entry))) r ⌝ }
 {
     let count = source.len() / 3;
     let next = fwd_wrapping_index(k, 1, count);
@@ -43,7 +43,7 @@ fn move_on(source: &[f64], p: Vector2, k: usize, eps: f64) -> usize
 // How a view round the whole outline ends.
 fn round_ending(source: &[f64], p: Vector2, k: usize, eps: f64, split: SplitResult) -> Ending
     requires { ⌜ Index (now source) k ⌝ }
-    ensures { λ r. ⌜ r ≡ roundEnding double (double .line) (now (source .entry)) p k eps split ⌝ }
+    ensures { λ r. ⌜ r ≡ roundEnding double (now (source .entry)) p k eps split ⌝ }
 {
     let count = source.len() / 3;
     let v = vertex_at(source, k);
@@ -63,7 +63,7 @@ fn round_ending(source: &[f64], p: Vector2, k: usize, eps: f64, split: SplitResu
 
 // The whole outline, from a point on segment k.
 fn round_from(source: &[f64], p: Vector2, k: usize, eps: f64) -> PlineViewData
-    requires { ⌜ Splits double (now source) k p eps ⌝ }
+    requires { ⌜ Index (now source) k ⌝ }
     ensures { λ r. ⌜ r ≡ roundFrom double (double .line) (now (source .entry)) p k eps ⌝ }
 {
     let count = source.len() / 3;

@@ -1,4 +1,4 @@
-// What the view calls use of the segment calls, on vertices and points that are in range.
+// Whether a point lies on a segment: the closure `point_is_on_segment` of the crate's `validate_for_source`.
 use crate::outline::fwd_wrapping_index;
 use crate::outline::vertex_at;
 use plane::PlineVertex;
@@ -6,20 +6,25 @@ use plane::Vector2;
 use seg::closest_point;
 ghost use mathlib.Core.Path.{_≡_};
 ghost use Rattle.plane.specs.Grade.{double};
-ghost use Rattle.view.specs.Segment.{SegIn, nearEnd, nearClosest, onSegmentOf, onOutline};
+ghost use Rattle.view.specs.Needs.{Index};
+ghost use Rattle.view.specs.Segment.{nearEnd, nearClosest, onSegmentOf, onOutline};
+
+// An end that is nearer to a vertex than this sits on it.
+pub const ON_VERTEX: f64 = 1e-5;
+
+// A point that is nearer to a segment than this is on it.
+const ON_SEGMENT: f64 = 1e-3;
 
 fn near_an_end(v1: PlineVertex, v2: PlineVertex, p: Vector2) -> bool
     ensures { λ r. ⌜ r ≡ nearEnd double v1 v2 p ⌝ }
 {
-    let start = Vector2 { x: v1.x, y: v1.y };
-    let end = Vector2 { x: v2.x, y: v2.y };
-    p.fuzzy_eq_eps(start, 1e-3) || p.fuzzy_eq_eps(end, 1e-3)
+    p.fuzzy_eq_eps(v1.pos(), ON_SEGMENT) || p.fuzzy_eq_eps(v2.pos(), ON_SEGMENT)
 }
 
 fn near_closest_point(v1: PlineVertex, v2: PlineVertex, p: Vector2) -> bool
     ensures { λ r. ⌜ r ≡ nearClosest double (double .line) v1 v2 p ⌝ }
 {
-    closest_point(v1, v2, p, 1e-5).fuzzy_eq_eps(p, 1e-3)
+    closest_point(v1, v2, p, ON_VERTEX).fuzzy_eq_eps(p, ON_SEGMENT)
 }
 
 fn is_on_segment(v1: PlineVertex, v2: PlineVertex, p: Vector2) -> bool
@@ -30,7 +35,7 @@ fn is_on_segment(v1: PlineVertex, v2: PlineVertex, p: Vector2) -> bool
 
 // Whether a point lies on segment k of an outline.
 pub fn point_is_on_segment(source: &[f64], k: usize, p: Vector2) -> bool
-    requires { ⌜ SegIn double (now source) k p ⌝ }
+    requires { ⌜ Index (now source) k ⌝ }
     ensures { λ r. ⌜ r ≡ onOutline double (double .line) (now (source .entry)) k p ⌝ }
 {
     let count = source.len() / 3;
