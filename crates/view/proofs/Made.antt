@@ -1,32 +1,39 @@
 -- What `create` and `from_new_start` answer passes the checks, and has equal bulges where its offset is 0: only an end on top of the next vertex has offset 0, and it takes the start's bulge.
 use mathlib.Core.Path.{_≡_, refl, sym, ap, subst}
 use mathlib.Core.Bool.{Bool, true, false, cond}
-use mathlib.Core.List.{List}
+use mathlib.Core.List.{List, [], _∷_}
 use Prim.Native.Nat.{ℕ, _+_, _-_, _<_, _≤_}
 use native.Mathlib.Nat.{mod-lt}
 use native.Mathlib.Omega.{arith}
 use lib.Dec.{ltb, eqb}
-use lib.Ieee.{Float}
+use lib.Ieee.{Float, neg, add, sub, mul, ofBits, ofFields, odd, le, lt, eq}
 use borrow.Author.Tests.{ltb-true, leb-true, eq-eqb}
 use Rattle.real.specs.Refusal.{badNumber, badTolerance, badOutline, badIndex, badOffset, notClosed}
 use Rattle.real.specs.Reply.{given}
+use Rattle.real.specs.Root.{absOf}
 use Rattle.plane.specs.Grade.{Grade, double}
 use Rattle.plane.specs.Vec.{vnearOf}
-use Rattle.plane.specs.Vertex.{posOf}
-use Rattle.plane.specs.Range.{tolOk, coordOk, bulgeOk, pointOk, vertexOk, segOk}
+use Rattle.plane.specs.Vertex.{vertexAt, posOf}
+use Rattle.plane.specs.Range.{wholeOutline, tolOk, coordOk, bulgeOk, pointOk, vertexOk, segOk}
 use Rattle.plane.specs.declared.vector2.Vector2.{Vector2}
 use Rattle.plane.specs.declared.pline_vertex.PlineVertex.{PlineVertex}
+use Rattle.seg.specs.Cases.{half, minusHalf, vec}
 use Rattle.seg.specs.Split.{splitOf}
 use Rattle.seg.proofs.HalfCircle.{Sound, double-sound, stays-in-range, InRange}
-use Rattle.view.specs.Outline.{vertexOf, countOf, viewable, numbersOk}
+use Rattle.lists.specs.Plain.{tab, turn, turnAt, turnList, stepList, rowList}
+use Rattle.lists.specs.View.{forward, viewList, vertexAt as positionAt}
+use Rattle.view.specs.Outline.{vertexOf, countOf, viewable, all, numbersOk}
 use Rattle.view.specs.Record.{recordOk}
-use Rattle.view.specs.Demand3.{Demand3, MadeDemand3}
+use Rattle.view.specs.Rows.{row}
+use Rattle.view.specs.Demand3.{Lists, MadeDemand3}
+use Rattle.view.specs.Cases.{vert, Q, arc}
 use Rattle.view.specs.Create.{nextOf, prevOf, ending, forwardData, endOnTop, endOnSegment, endingOf, endedAt, createOf, movedOn, roundEnding, roundFrom, newStartOf}
 use Rattle.view.specs.declared.view_data.PlineViewData.{PlineViewData}
 use Rattle.view.specs.declared.ending.Ending.{Ending}
 use Rattle.view.proofs.All.{and-both}
 use Rattle.view.proofs.Checks.{check-passed, viewable-in, vertex-in}
 use Rattle.view.proofs.Demand3.{Fine, fine-demand3}
+open Grade double using (zero, four)
 
 -- a vertex in range has its bulge in range
 bulge-in : (g : Grade) (v : PlineVertex) → vertexOk g v ≡ true → bulgeOk g (v .bulge) ≡ true
@@ -49,7 +56,7 @@ record Asked (g : Grade) (s : List Float) (p : Vector2) (eps : Float) : Type 0 w
   tolerance : tolOk g eps ≡ true
 
 -- how a view from a vertex with bulge b ends
-record Ended (g : Grade) (s : List Float) (b : Float) (e : Ending) : Type 0 where
+record Ended (g : Grade) (b : Float) (e : Ending) : Type 0 where
   bulge-ok : bulgeOk g (e .bulge) ≡ true
   even : e .offset ≡ 0 → b ≡ e .bulge
 
@@ -64,7 +71,7 @@ module _ (g : Grade) (s : List Float) (p : Vector2) (eps : Float) (a : Asked g s
   prev-in k = bulge-in g _ (vertex-in g s (a .numbers) (prevOf s k) (mod-lt (k + (countOf s - 1)) (omega (arith, size))))
 
   -- a forward record whose parts are in range
-  made : (start : ℕ) (first : PlineVertex) (e : Ending) → start < countOf s → vertexOk g first ≡ true → e .offset ≤ countOf s → Ended g s (first .bulge) e → Fine g s (forwardData start first p e)
+  made : (start : ℕ) (first : PlineVertex) (e : Ending) → start < countOf s → vertexOk g first ≡ true → e .offset ≤ countOf s → Ended g (first .bulge) e → Fine g s (forwardData start first p e)
   unfolding recordOk
   made start first e h v l x =
       let n = viewable-in s (a .outline) in
@@ -74,7 +81,7 @@ module _ (g : Grade) (s : List Float) (p : Vector2) (eps : Float) (a : Asked g s
       }
 
   -- `endedAt` gives such a record, or nothing
-  ended-fine : (start : ℕ) (first : PlineVertex) (e : Ending) (d : PlineViewData) → start < countOf s → vertexOk g first ≡ true → Ended g s (first .bulge) e → given d ≡ endedAt s start p first e → Fine g s d
+  ended-fine : (start : ℕ) (first : PlineVertex) (e : Ending) (d : PlineViewData) → start < countOf s → vertexOk g first ≡ true → Ended g (first .bulge) e → given d ≡ endedAt s start p first e → Fine g s d
   unfolding endedAt
   ended-fine start first e d h v x q =
       let l = check-passed badOffset (given (forwardData start first p e)) q in
@@ -91,10 +98,10 @@ module _ (g : Grade) (s : List Float) (p : Vector2) (eps : Float) (a : Asked g s
     split-in k h = stays-in-range g sound limit (vertexOf s k) (vertexOf s (nextOf s k)) p eps (simp (vertex-in g s (a .numbers) k h, vertex-in g s (a .numbers) (nextOf s k) (next-in k))) (a .point) (a .tolerance)
 
     -- how a view that is created ends
-    ends : (at : ℕ) (b : Float) (traverse : ℕ) → at < countOf s → bulgeOk g b ≡ true → 0 < traverse → Ended g s b (endingOf g limit s p at b traverse eps)
+    ends : (at : ℕ) (b : Float) (traverse : ℕ) → at < countOf s → bulgeOk g b ≡ true → 0 < traverse → Ended g b (endingOf g limit s p at b traverse eps)
     unfolding endingOf endOnTop endOnSegment
     ends at b traverse h ok t =
-        either (Ended g s b) (vnearOf g p (posOf (vertexOf s at)) eps)
+        either (Ended g b) (vnearOf g p (posOf (vertexOf s at)) eps)
         (λ _. record { bulge-ok = either (λ (x : Float). bulgeOk g x ≡ true) (eqb (traverse - 1) 0) (λ _. ok) (λ _. prev-in at); even = λ z. sym (ap (λ (f : Bool). cond f b (vertexOf s (prevOf s at) .bulge)) (eq-eqb (traverse - 1) 0 z)) })
         (λ _. record { bulge-ok = bulge-in g _ (split-in at h .0); even = λ z. absurd (omega arith) })
 
@@ -148,3 +155,13 @@ made-demand3 g sound limit =
 -- at f64
 pub made-demand3-f64 : MadeDemand3 double (double .line)
 made-demand3-f64 = made-demand3 double double-sound (double .line)
+
+-- offset 0 on Q, from vertex 1 to the next one: the last bulge is the start's, not that of the vertex before the end
+pub arc-made : createOf double (double .line) Q 1 (vec four four) 2 (vertexAt four zero half) 1 (double .fuzz) ≡ given arc
+unfolding Q arc createOf endingOf endOnTop endedAt viewable wholeOutline all numbersOk coordOk bulgeOk pointOk vertexOk tolOk absOf add sub mul le lt eq ofBits ofFields odd
+arc-made = refl
+
+-- and turned round it lists the arc from its end
+pub arc-turned : Lists double Q (row double Q (turn ∷ []) arc) (vert four four minusHalf ∷ vert four zero zero ∷ [])
+unfolding Q arc rowList stepList turnList turnAt viewList positionAt forward tab neg ofBits
+arc-turned = made-demand3-f64 .created Q 1 (vec four four) 2 _ 1 (double .fuzz) arc arc-made .rows (turn ∷ []) .lists

@@ -1,5 +1,5 @@
 -- What each public call answers, as a chain of refusals in document 01's order and then the value, and what a lent buffer holds afterwards.
-use Prim.Native.Nat.{ℕ, _+_}
+use Prim.Native.Nat.{ℕ}
 use mathlib.Core.Bool.{_&&_}
 use mathlib.Core.List.{List, _++_}
 use lib.ListN.{length, drop}

@@ -1,13 +1,8 @@
 -- Each return is the definition's case that the tests before it show.
-use mathlib.Core.Path.{_≡_, sym, _∙_}
-use mathlib.Core.Bool.{_&&_, _||_}
-use Prim.Native.Nat.{_+_, _-_}
-use lib.Dec.{eqb}
+use mathlib.Core.Path.{sym, _∙_}
 use borrow.Author.Needs.{needs}
 use borrow.Author.Tests.{eq-eqb, ne-eqb, lt-ltb, le-ltb, not-true, not-false}
-use denote.Ref.{now}
-use Rattle.plane.specs.Grade.{double}
-use Rattle.view.specs.Record.{pastOk, readsOk}
+use Rattle.view.specs.Record.{readsOk}
 use Rattle.view.proofs.lookup.reads_in_range.Statement.{statement}
 use Rattle.view.proofs.lookup.reads_in_range.Tie as tie
 
