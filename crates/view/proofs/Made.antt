@@ -18,12 +18,12 @@ use Rattle.plane.specs.Range.{wholeOutline, tolOk, coordOk, bulgeOk, pointOk, v
 use Rattle.plane.specs.declared.vector2.Vector2.{Vector2}
 use Rattle.plane.specs.declared.pline_vertex.PlineVertex.{PlineVertex}
 use Rattle.seg.specs.Cases.{half, minusHalf, vec}
-use Rattle.seg.specs.Split.{splitOf}
 use Rattle.seg.proofs.HalfCircle.{Sound, double-sound, stays-in-range, InRange}
 use Rattle.lists.specs.Plain.{tab, turn, turnAt, turnList, stepList, rowList}
 use Rattle.lists.specs.View.{forward, viewList, vertexAt as positionAt}
 use Rattle.view.specs.Outline.{vertexOf, countOf, viewable, all, numbersOk}
 use Rattle.view.specs.Record.{recordOk}
+use Rattle.view.specs.Segment.{splitSegment}
 use Rattle.view.specs.Rows.{row}
 use Rattle.view.specs.Demand3.{Lists, MadeDemand3}
 use Rattle.view.specs.Cases.{vert, Q, arc}
@@ -67,8 +67,8 @@ module _ (g : Grade) (s : List Float) (p : Vector2) (eps : Float) (a : Asked g s
   next-in : (k : ℕ) → nextOf s k < countOf s
   next-in k = mod-lt (k + 1) (omega (arith, size))
 
-  prev-in : (k : ℕ) → bulgeOk g (vertexOf s (prevOf s k) .bulge) ≡ true
-  prev-in k = bulge-in g _ (vertex-in g s (a .numbers) (prevOf s k) (mod-lt (k + (countOf s - 1)) (omega (arith, size))))
+  prev-in : (k : ℕ) → bulgeOk g (prevOf s k .bulge) ≡ true
+  prev-in k = bulge-in g _ (vertex-in g s (a .numbers) _ (mod-lt (k + (countOf s - 1)) (omega (arith, size))))
 
   -- a forward record whose parts are in range
   made : (start : ℕ) (first : PlineVertex) (e : Ending) → start < countOf s → vertexOk g first ≡ true → e .offset ≤ countOf s → Ended g (first .bulge) e → Fine g s (forwardData start first p e)
@@ -93,7 +93,7 @@ module _ (g : Grade) (s : List Float) (p : Vector2) (eps : Float) (a : Asked g s
   moved-in k h = either (λ (n : ℕ). n < countOf s) (vnearOf g (posOf (vertexOf s (nextOf s k))) p eps) (λ _. next-in k) (λ _. h)
 
   module _ (sound : Sound g) (limit : Float) where
-    split-in : (k : ℕ) → k < countOf s → InRange g (splitOf g limit (vertexOf s k) (vertexOf s (nextOf s k)) p eps)
+    split-in : (k : ℕ) → k < countOf s → InRange g (splitSegment g limit s k p eps)
     unfolding segOk
     split-in k h = stays-in-range g sound limit (vertexOf s k) (vertexOf s (nextOf s k)) p eps (simp (vertex-in g s (a .numbers) k h, vertex-in g s (a .numbers) (nextOf s k) (next-in k))) (a .point) (a .tolerance)
 
@@ -102,7 +102,7 @@ module _ (g : Grade) (s : List Float) (p : Vector2) (eps : Float) (a : Asked g s
     unfolding endingOf endOnTop endOnSegment
     ends at b traverse h ok t =
         either (Ended g b) (vnearOf g p (posOf (vertexOf s at)) eps)
-        (λ _. record { bulge-ok = either (λ (x : Float). bulgeOk g x ≡ true) (eqb (traverse - 1) 0) (λ _. ok) (λ _. prev-in at); even = λ z. sym (ap (λ (f : Bool). cond f b (vertexOf s (prevOf s at) .bulge)) (eq-eqb (traverse - 1) 0 z)) })
+        (λ _. record { bulge-ok = either (λ (x : Float). bulgeOk g x ≡ true) (eqb (traverse - 1) 0) (λ _. ok) (λ _. prev-in at); even = λ z. sym (ap (λ (f : Bool). cond f b (prevOf s at .bulge)) (eq-eqb (traverse - 1) 0 z)) })
         (λ _. record { bulge-ok = bulge-in g _ (split-in at h .0); even = λ z. absurd (omega arith) })
 
     -- the view round the whole outline from segment k
@@ -110,9 +110,9 @@ module _ (g : Grade) (s : List Float) (p : Vector2) (eps : Float) (a : Asked g s
     unfolding roundFrom roundEnding
     round-fine k h =
         let two = size in
-        let split = splitOf g limit (vertexOf s k) (vertexOf s (nextOf s k)) p eps in
+        let split = splitSegment g limit s k p eps in
         either (λ (e : Ending). Fine g s (forwardData k (split .«split_vertex») p e)) (vnearOf g (posOf (vertexOf s k)) p eps)
-        (λ _. made k (split .«split_vertex») (ending (countOf s - 1) (vertexOf s (prevOf s k) .bulge)) h (split-in k h .1) (omega arith) (record { bulge-ok = prev-in k; even = λ z. absurd (omega arith) }))
+        (λ _. made k (split .«split_vertex») (ending (countOf s - 1) (prevOf s k .bulge)) h (split-in k h .1) (omega arith) (record { bulge-ok = prev-in k; even = λ z. absurd (omega arith) }))
         (λ _. made k (split .«split_vertex») (ending (countOf s) (split .«updated_start» .bulge)) h (split-in k h .1) (omega arith) (record { bulge-ok = bulge-in g _ (split-in k h .0); even = λ z. absurd (omega arith) }))
 
 module _ (g : Grade) (sound : Sound g) (limit : Float) (s : List Float) (p : Vector2) (eps : Float) (d : PlineViewData) where

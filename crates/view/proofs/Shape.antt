@@ -14,7 +14,7 @@ use Rattle.plane.specs.Grade.{Grade}
 use Rattle.lists.specs.Plain.{Vert, at}
 use Rattle.lists.specs.View.{viewList}
 use Rattle.view.specs.Outline.{countOf, ofVert, srcOf}
-use Rattle.view.specs.Record.{viewOf, vertices, listed, pastOk, readsOk}
+use Rattle.view.specs.Record.{viewOf, vertices, listed, pastOk, turnedOk, readsOk}
 use Rattle.view.specs.Needs.{Placed}
 use Rattle.view.specs.Answers.{getVertexOf}
 use Rattle.view.specs.declared.view_data.PlineViewData.{PlineViewData}
@@ -36,7 +36,7 @@ module _ (g : Grade) (s : List Float) (d : PlineViewData) where
     past steps = vertex-in g s (c .numbers) _ (mod-lt _ (omega (arith, c .placed)))
 
     reads : (k : ℕ) → readsOk g s d k ≡ true
-    unfolding readsOk
+    unfolding readsOk turnedOk
     reads k = simp past (same (eqb k 0 || ltb (d .«end_index_offset») k) (d .«inverted_direction») (eqb k (d .«end_index_offset»)))
       where
         same : (a b e : Bool) → cond a true (cond b (true && (e || true)) true) ≡ true

@@ -41,6 +41,14 @@ pub record Room (s : List Float) (d : PlineViewData) (out : List Float) : Type 0
   pub placed : Placed s d
   pub room : needed d ≤ length out
 
+-- a start and an offset in an outline that is not too long, and a position between the first and the last
+pub record Inner (s : List Float) (start offset k : ℕ) : Type 0 where
+  pub few : countOf s ≤ mostVertices
+  pub below : start < countOf s
+  pub round : offset ≤ countOf s
+  pub past : 0 < k
+  pub within : k ≤ offset
+
 -- a vertex, and so a segment, of an outline that is not too long; and a traverse count of at least 1
 pub record Index (s : List Float) (k : ℕ) : Type 0 where
   pub few : countOf s ≤ mostVertices

@@ -1,4 +1,4 @@
--- A point on a segment of an outline: the closure `point_is_on_segment` of the crate's `validate_for_source`.
+-- A segment of an outline: whether a point lies on it, the closure `point_is_on_segment` of the crate's `validate_for_source`, and its split.
 use mathlib.Core.Bool.{Bool, _||_}
 use mathlib.Core.List.{List}
 use Prim.Native.Nat.{ℕ}
@@ -9,8 +9,9 @@ use Rattle.plane.specs.Vertex.{posOf}
 use Rattle.plane.specs.declared.vector2.Vector2.{Vector2}
 use Rattle.plane.specs.declared.pline_vertex.PlineVertex.{PlineVertex}
 use Rattle.seg.specs.Closest.{closestOf}
-use Rattle.lists.specs.View.{wrapped}
-use Rattle.view.specs.Outline.{vertexOf, countOf}
+use Rattle.seg.specs.Split.{splitOf}
+use Rattle.seg.specs.declared.split.SplitResult.{SplitResult}
+use Rattle.view.specs.Outline.{vertexOf, vertexPast}
 
 module _ (g : Grade) where
   -- "0.001 mm says whether a point is on a segment": at an end of it, or at its closest point
@@ -26,4 +27,8 @@ module _ (g : Grade) where
 
     -- on segment k, from vertex k to the next one, wrapping
     unfoldable pub onOutline : List Float → ℕ → Vector2 → Bool
-    onOutline s k p = onSegmentOf (vertexOf s k) (vertexOf s (wrapped k 1 (countOf s))) p
+    onOutline s k p = onSegmentOf (vertexOf s k) (vertexPast s k 1) p
+
+    -- that segment, split at a point
+    abbrev pub splitSegment : List Float → ℕ → Vector2 → Float → SplitResult
+    splitSegment s k p eps = splitOf g limit (vertexOf s k) (vertexPast s k 1) p eps

@@ -1,9 +1,10 @@
 // The crate's `PlineViewData::create`.
 use crate::ending::Ending;
-use crate::outline::fwd_wrapping_index;
 use crate::outline::serves_views;
 use crate::outline::vertex_at;
+use crate::outline::vertex_past;
 use crate::outline::vertices_in_range;
+use crate::segment::split_segment;
 use crate::view_data::PlineViewData;
 use crate::view_data::ViewAnswer;
 use plane::PlineVertex;
@@ -16,7 +17,6 @@ use real::BAD_NUMBER;
 use real::BAD_OFFSET;
 use real::BAD_OUTLINE;
 use real::BAD_TOLERANCE;
-use seg::split_at_point;
 ghost use mathlib.Core.Path.{_≡_};
 ghost use mathlib.Core.Bool.{_&&_};
 ghost use lib.Dec.{ltb};
@@ -37,7 +37,7 @@ fn end_on_top(source: &[f64], at: usize, b: f64, traverse: usize) -> Ending
     if offset == 0 {
         return Ending { offset, bulge: b };
     }
-    let v = vertex_at(source, fwd_wrapping_index(at, count - 1, count));
+    let v = vertex_past(source, at, count - 1);
     Ending {
         offset,
         bulge: v.bulge,
@@ -49,10 +49,7 @@ fn end_on_segment(source: &[f64], at: usize, p: Vector2, traverse: usize, eps: f
     requires { ⌜ Index (now source) at ⌝ }
     ensures { λ r. ⌜ r ≡ endOnSegment double (double .line) (now (source .entry)) at p traverse eps ⌝ }
 {
-    let count = source.len() / 3;
-    let v1 = vertex_at(source, at);
-    let v2 = vertex_at(source, fwd_wrapping_index(at, 1, count));
-    let split = split_at_point(v1, v2, p, eps);
+    let split = split_segment(source, at, p, eps);
     let start = split.updated_start;
     Ending {
         offset: traverse,

@@ -3,7 +3,9 @@ use crate::ending::Ending;
 use crate::outline::fwd_wrapping_index;
 use crate::outline::serves_views;
 use crate::outline::vertex_at;
+use crate::outline::vertex_past;
 use crate::outline::vertices_in_range;
+use crate::segment::split_segment;
 use crate::view_data::PlineViewData;
 use crate::view_data::ViewAnswer;
 use plane::Vector2;
@@ -15,7 +17,6 @@ use real::BAD_OUTLINE;
 use real::BAD_TOLERANCE;
 use real::NOT_CLOSED;
 use seg::SplitResult;
-use seg::split_at_point;
 ghost use mathlib.Core.Path.{_≡_};
 ghost use mathlib.Core.Bool.{_&&_};
 ghost use Rattle.plane.specs.Grade.{double};
@@ -49,7 +50,7 @@ fn round_ending(source: &[f64], p: Vector2, k: usize, eps: f64, split: SplitResu
     let v = vertex_at(source, k);
     let start = split.updated_start;
     if v.pos().fuzzy_eq_eps(p, eps) {
-        let before = vertex_at(source, fwd_wrapping_index(k, count - 1, count));
+        let before = vertex_past(source, k, count - 1);
         return Ending {
             offset: count - 1,
             bulge: before.bulge,
@@ -66,10 +67,7 @@ fn round_from(source: &[f64], p: Vector2, k: usize, eps: f64) -> PlineViewData
     requires { ⌜ Index (now source) k ⌝ }
     ensures { λ r. ⌜ r ≡ roundFrom double (double .line) (now (source .entry)) p k eps ⌝ }
 {
-    let count = source.len() / 3;
-    let v1 = vertex_at(source, k);
-    let v2 = vertex_at(source, fwd_wrapping_index(k, 1, count));
-    let split = split_at_point(v1, v2, p, eps);
+    let split = split_segment(source, k, p, eps);
     let e = round_ending(source, p, k, eps, split);
     let first = split.split_vertex;
     PlineViewData {

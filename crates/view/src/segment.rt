@@ -1,13 +1,15 @@
-// Whether a point lies on a segment: the closure `point_is_on_segment` of the crate's `validate_for_source`.
-use crate::outline::fwd_wrapping_index;
+// A segment of an outline: whether a point lies on it (the closure `point_is_on_segment` of the crate's `validate_for_source`), and its split.
 use crate::outline::vertex_at;
+use crate::outline::vertex_past;
 use plane::PlineVertex;
 use plane::Vector2;
+use seg::SplitResult;
 use seg::closest_point;
+use seg::split_at_point;
 ghost use mathlib.Core.Path.{_≡_};
 ghost use Rattle.plane.specs.Grade.{double};
 ghost use Rattle.view.specs.Needs.{Index};
-ghost use Rattle.view.specs.Segment.{nearEnd, nearClosest, onSegmentOf, onOutline};
+ghost use Rattle.view.specs.Segment.{nearEnd, nearClosest, onSegmentOf, onOutline, splitSegment};
 
 // An end that is nearer to a vertex than this sits on it.
 pub const ON_VERTEX: f64 = 1e-5;
@@ -38,8 +40,15 @@ pub fn point_is_on_segment(source: &[f64], k: usize, p: Vector2) -> bool
     requires { ⌜ Index (now source) k ⌝ }
     ensures { λ r. ⌜ r ≡ onOutline double (double .line) (now (source .entry)) k p ⌝ }
 {
-    let count = source.len() / 3;
     let v1 = vertex_at(source, k);
-    let v2 = vertex_at(source, fwd_wrapping_index(k, 1, count));
-    is_on_segment(v1, v2, p)
+    is_on_segment(v1, vertex_past(source, k, 1), p)
+}
+
+// Segment k of an outline, split at a point.
+pub fn split_segment(source: &[f64], k: usize, p: Vector2, eps: f64) -> SplitResult
+    requires { ⌜ Index (now source) k ⌝ }
+    ensures { λ r. ⌜ r ≡ splitSegment double (double .line) (now (source .entry)) k p eps ⌝ }
+{
+    let v1 = vertex_at(source, k);
+    split_at_point(v1, vertex_past(source, k, 1), p, eps)
 }
