@@ -8,7 +8,7 @@ use Rattle.plane.specs.Grade.{Grade}
 use Rattle.plane.specs.Range.{bulgeOk, pointOk, vertexOk}
 use Rattle.plane.specs.declared.pline_vertex.PlineVertex.{PlineVertex}
 use Rattle.lists.specs.Plain.{Vert}
-use Rattle.lists.specs.View.{View, forward, backward, vertexAt, viewList, part}
+use Rattle.lists.specs.View.{View, forward, backward, vertexAt, viewList, turnView, part, trimView}
 use Rattle.view.specs.Outline.{countOf, vertexPast, vertOf, ofVert, srcOf}
 use Rattle.view.specs.declared.view_data.PlineViewData.{PlineViewData}
 
@@ -35,6 +35,10 @@ dataOf r =
       «end_point» = record { x = r .endX; y = r .endY };
       «inverted_direction» = r .inverted;
     }
+
+-- the record turned round
+abbrev pub turnedOf : PlineViewData → PlineViewData
+turnedOf d = dataOf (turnView (viewOf d))
 
 -- how many vertices a view has, and how many numbers its list
 abbrev pub vertices : PlineViewData → ℕ
@@ -65,6 +69,10 @@ module _ (g : Grade) where
   -- the record of positions a to b of the forward list
   abbrev pub partOf : List Float → PlineViewData → ℕ → ℕ → PlineViewData
   partOf s d a b = dataOf (part (g .zero) (srcOf s) (countOf s) a b (viewOf d))
+
+  -- the record of positions i to j of the view
+  abbrev pub trimmedOf : List Float → PlineViewData → ℕ → ℕ → PlineViewData
+  trimmedOf s d i j = dataOf (trimView (g .zero) (srcOf s) (countOf s) i j (viewOf d))
 
   -- the record's numbers are in range
   unfoldable pub recordOk : PlineViewData → Bool

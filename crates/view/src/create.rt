@@ -1,4 +1,5 @@
 // The crate's `PlineViewData::create`.
+use crate::check::both_less;
 use crate::ending::Ending;
 use crate::outline::serves_views;
 use crate::outline::vertex_at;
@@ -19,7 +20,6 @@ use real::BAD_OUTLINE;
 use real::BAD_TOLERANCE;
 ghost use mathlib.Core.Path.{_≡_};
 ghost use mathlib.Core.Bool.{_&&_};
-ghost use lib.Dec.{ltb};
 ghost use Rattle.plane.specs.Grade.{double};
 ghost use Rattle.plane.specs.Range.{pointOk, vertexOk};
 ghost use Rattle.view.specs.Outline.{numbersOk};
@@ -93,12 +93,6 @@ fn all_in_range(source: &[f64], p: Vector2, first: PlineVertex) -> bool
     vertices_in_range(source) && (point_in_range(p) && vertex_in_range(first))
 }
 
-fn both_below(a: usize, b: usize, count: usize) -> bool
-    ensures { λ r. ⌜ r ≡ (ltb a count && ltb b count) ⌝ }
-{
-    a < count && b < count
-}
-
 impl PlineViewData {
     // The view from `first`, on segment `start`, over `traverse` vertices to a point on segment `at`.
     pub fn create(
@@ -124,7 +118,8 @@ impl PlineViewData {
         if traverse == 0 {
             return ViewAnswer::Refused(BAD_OFFSET);
         }
-        if !both_below(start, at, source.len() / 3) {
+        let count = source.len() / 3;
+        if !both_less(start, count, at, count) {
             return ViewAnswer::Refused(BAD_INDEX);
         }
         let e = find_end(source, p, at, first.bulge, traverse, eps);

@@ -38,7 +38,7 @@ returns-4 c = past3 (c .before) (simp (le-ltb 0 (c .before .before .before .befo
 
 returns-5 : tie.Need-returns-5
 unfolding createOf
-returns-5 c = past4 (c .before .before) (bad _ (c .before .both-below .ensures) (c .if5 .taken) refl)
+returns-5 c = past4 (c .before .before) (bad _ (c .before .both-less .ensures) (c .if5 .taken) refl)
 
 ends : tie.Need-find-end-requires
 ends c κs =
@@ -49,7 +49,7 @@ ends c κs =
       at-index =
           record {
             few = viewable-in _ (passed (at1 .before .serves-views .ensures) (at1 .if1 .left)) .1;
-            index = ltb-true _ _ (and-both (ltb (a .start) (countOf (now (a .source)))) _ (passed (c .before .both-below .ensures) (c .if5 .left)) .1);
+            index = ltb-true _ _ (and-both (ltb (a .start) (countOf (now (a .source)))) _ (passed (c .before .both-less .ensures) (c .if5 .left)) .1);
           };
       some = omega (arith, at4 .if4 .left);
     }
@@ -58,7 +58,7 @@ returns-6 : tie.Need-returns-6
 unfolding createOf
 returns-6 c =
     let at5 = c .before .before in
-    past4 (at5 .before .before) (good _ (at5 .before .both-below .ensures) (at5 .if5 .left) (rw (c .before .find-end .ensures) at (c .ended-at .ensures)))
+    past4 (at5 .before .before) (good _ (at5 .before .both-less .ensures) (at5 .if5 .left) (rw (c .before .find-end .ensures) at (c .ended-at .ensures)))
 
 pub create-spec : {M : Type 1} → statement M
 unfolding createOf
