@@ -1,5 +1,4 @@
 -- The tests are the definition's, in its order.
-use mathlib.Core.Path.{sym, _∙_}
 use borrow.Author.Needs.{needs}
 use borrow.Author.Tests.{eq-eqb, ne-eqb}
 use Rattle.real.proofs.Pick.{both, not-first}
