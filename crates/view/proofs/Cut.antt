@@ -23,8 +23,7 @@ use Rattle.view.specs.Answers.{listOf}
 use Rattle.view.specs.Cut.{Cut}
 use Rattle.view.specs.declared.view_data.PlineViewData.{PlineViewData}
 use Rattle.view.proofs.All.{and-both}
-use Rattle.view.proofs.Checks.{Checked, checked-rest}
-use Rattle.view.proofs.Segments.{few-of-whole}
+use Rattle.view.proofs.Checks.{Checked, checked-rest, few-of-whole}
 
 module _ (closed : Bool) where
   -- a link of the chain that is passed on the way to cut: a refusal, a verdict that is held, and one among the last verdicts

@@ -16,15 +16,15 @@ use Rattle.plane.specs.Grade.{Grade}
 use Rattle.plane.specs.Range.{coordOk, bulgeOk, pointOk, vertexOk}
 use Rattle.plane.specs.declared.pline_vertex.PlineVertex.{PlineVertex}
 use Rattle.lists.specs.Plain.{Vert, Step, turn, trim, stepList, rowList}
-use Rattle.lists.specs.View.{turnView, trimView}
-use Rattle.view.specs.Outline.{countOf, vertexOf, vertOf, srcOf, numbersOk}
-use Rattle.view.specs.Record.{viewOf, dataOf, vertices, needed, evenBits, listed, recordOk}
+use Rattle.lists.specs.View.{turnView}
+use Rattle.view.specs.Outline.{countOf, vertOf, srcOf}
+use Rattle.view.specs.Record.{viewOf, dataOf, turnedOf, trimmedOf, vertices, needed, evenBits, listed, recordOk}
 use Rattle.view.specs.Answers.{listOf, listBuffer, bufferAfter, written, reverseOf, trimOf}
 use Rattle.view.specs.Rows.{after, step, row}
 use Rattle.view.specs.Demand3.{Unrefused, SameBits, Even, Lists, Kept, Demand3}
 use Rattle.view.specs.declared.view_data.PlineViewData.{PlineViewData}
-use Rattle.view.proofs.All.{and-both, all-each}
-use Rattle.view.proofs.Checks.{Checked, checked, checked-rest}
+use Rattle.view.proofs.All.{and-both}
+use Rattle.view.proofs.Checks.{Checked, checked, checked-rest, Evened, even-rest, vertex-in}
 use Rattle.lists.proofs.Lists.{plain-steps}
 use Rattle.lists.proofs.Good.{InRange, Good, turn-good, trim-good}
 use Rattle.lists.proofs.Listing.{list-turn, list-trim, turn-twice, trim-after-turn, length-list}
@@ -85,21 +85,10 @@ module _ (g : Grade) (s : List Float) where
         even = g .even;
       }
 
-  sound : numbersOk g s ≡ true → (k : ℕ) → k < countOf s → InRange (C g) (B g) (srcOf s k)
-  unfolding numbersOk
-  sound e k h = vertex-range g (vertexOf s k) (all-each (λ i. vertexOk g (vertexOf s i)) (countOf s) e k h)
-
-  -- the records that reversal and trim make
-  abbrev turnOf : PlineViewData → PlineViewData
-  turnOf d = dataOf (turnView (viewOf d))
-
-  abbrev partOf : ℕ → ℕ → PlineViewData → PlineViewData
-  partOf i j d = dataOf (trimView (g .zero) (srcOf s) (countOf s) i j (viewOf d))
-
   module _ (d : PlineViewData) (f : Fine d) where
-    evened : evenBits g d ≡ true
+    even-bits : evenBits g d ≡ true
     unfolding evenBits
-    evened = go (decLt 0 (d .«end_index_offset»))
+    even-bits = go (decLt 0 (d .«end_index_offset»))
       where
         go : Dec (0 < d .«end_index_offset») → evenBits g d ≡ true
         go (yes p) = simp (ne-eqb (d .«end_index_offset») 0 (omega arith))
@@ -107,33 +96,36 @@ module _ (g : Grade) (s : List Float) where
             let e : d .«end_index_offset» ≡ 0 = omega arith in
             simp (eq-eqb (d .«end_index_offset») 0 e, eq-eqb (toBits (g .format) (d .«updated_start» .bulge)) (toBits (g .format) (d .«updated_end_bulge»)) (ap (toBits (g .format)) (f .even e)))
 
-    reverses : reverseOf g s d ≡ given (turnOf d)
+    evened : Evened g s d
+    evened = record { clear = f .clear; even = even-bits }
+
+    reverses : reverseOf g s d ≡ given (turnedOf d)
     unfolding reverseOf
-    reverses = checked-rest g s d _ (f .clear) ∙ simp evened
+    reverses = even-rest g s d _ evened
 
     -- what trim answers to a test of its positions
-    trims : (i j : ℕ) (t : Bool) → (ltb i j && ltb j (vertices d)) ≡ t → trimOf g s d i j ≡ check t badTrim (given (partOf i j d))
+    trims : (i j : ℕ) (t : Bool) → (ltb i j && ltb j (vertices d)) ≡ t → trimOf g s d i j ≡ check t badTrim (given (trimmedOf g s d i j))
     unfolding trimOf
-    trims i j t e = checked-rest g s d _ (f .clear) ∙ simp (evened, e)
+    trims i j t e = even-rest g s d _ evened ∙ simp e
 
-    turn-step : step g s turn d ≡ turnOf d
+    turn-step : step g s turn d ≡ turnedOf d
     unfolding step
     turn-step = ap (after d) reverses
 
-    trim-step : (i j : ℕ) (t : Bool) → (ltb i j && ltb j (vertices d)) ≡ t → step g s (trim i j) d ≡ cond t (partOf i j d) d
+    trim-step : (i j : ℕ) (t : Bool) → (ltb i j && ltb j (vertices d)) ≡ t → step g s (trim i j) d ≡ cond t (trimmedOf g s d i j) d
     unfolding step
     trim-step i j true e = ap (after d) (trims i j true e)
     trim-step i j false e = ap (after d) (trims i j false e)
 
-    turn-fine : Fine (turnOf d)
-    turn-fine = fine d (turnOf d) f (turn-good (C g) (B g) (countOf s) (viewOf d) (good d f))
+    turn-fine : Fine (turnedOf d)
+    turn-fine = fine d (turnedOf d) f (turn-good (C g) (B g) (countOf s) (viewOf d) (good d f))
 
-    turn-vertices : vertices (turnOf d) ≡ vertices d
+    turn-vertices : vertices (turnedOf d) ≡ vertices d
     unfolding turnView
     turn-vertices = refl
 
-    trim-fine : (i j : ℕ) → i < j → j < vertices d → Fine (partOf i j d)
-    trim-fine i j below within = fine d (partOf i j d) f (trim-good (C g) (B g) (g .zero) (srcOf s) (countOf s) (omega (arith, f .clear .placed)) (sound (f .clear .numbers)) (viewOf d) (good d f) i j below within)
+    trim-fine : (i j : ℕ) → i < j → j < vertices d → Fine (trimmedOf g s d i j)
+    trim-fine i j below within = fine d (trimmedOf g s d i j) f (trim-good (C g) (B g) (g .zero) (srcOf s) (countOf s) (omega (arith, f .clear .placed)) (λ k h. vertex-range g _ (vertex-in g s (f .clear .numbers) k h)) (viewOf d) (good d f) i j below within)
 
     count : length (listed g s d) ≡ vertices d
     count = length-list neg (g .zero) (srcOf s) (countOf s) (viewOf d)
@@ -158,7 +150,7 @@ module _ (g : Grade) (s : List Float) where
         trimmed = λ i j below within. let e = both i j (vertices d) below (rw (count d f) at within) in trims d f i j true e ∙ ap given (sym (trim-step d f i j true e));
         refusal = λ i j e. trims d f i j false (rw (count d f) at e);
         unchanged = λ i j e. trim-step d f i j false (rw (count d f) at e);
-        twice = ap (step g s turn) (turn-step d f) ∙ turn-step (turnOf d) (turn-fine d f) ∙ ap dataOf (turn-twice (viewOf d));
+        twice = ap (step g s turn) (turn-step d f) ∙ turn-step (turnedOf d) (turn-fine d f) ∙ ap dataOf (turn-twice (viewOf d));
         mirrored = λ i j below within. mirror i j below (rw (count d f) at within);
       }
     where
@@ -169,9 +161,9 @@ module _ (g : Grade) (s : List Float) where
           let e₁ : vertices d - 1 - j ≡ i′ = omega arith in
           let e₂ : vertices d - 1 - i ≡ j′ = omega arith in
           rw (count d f, e₁, e₂)
-          (ap (step g s (trim i j)) (turn-step d f) ∙ trim-step (turnOf d) (turn-fine d f) i j true (both i j (vertices (turnOf d)) below (rw (turn-vertices d f) within))
+          (ap (step g s (trim i j)) (turn-step d f) ∙ trim-step (turnedOf d) (turn-fine d f) i j true (both i j (vertices (turnedOf d)) below (rw (turn-vertices d f) within))
           ∙ ap dataOf (trim-after-turn (viewOf d) (g .zero) (srcOf s) (countOf s) i j below within)
-          ∙ sym (ap (step g s turn) (trim-step d f i′ j′ true (both i′ j′ (vertices d) (omega arith) (omega arith))) ∙ turn-step (partOf i′ j′ d) (trim-fine d f i′ j′ (omega arith) (omega arith))))
+          ∙ sym (ap (step g s turn) (trim-step d f i′ j′ true (both i′ j′ (vertices d) (omega arith) (omega arith))) ∙ turn-step (trimmedOf g s d i′ j′) (trim-fine d f i′ j′ (omega arith) (omega arith))))
 
   -- what a step leaves
   pub record Stepped (t : Step) (d : PlineViewData) : Type 0 where
@@ -210,9 +202,11 @@ module _ (g : Grade) (s : List Float) where
   rows [] d f = kept d f
   rows (t ∷ ts) d f = let w = stepped t d f in subst (λ (l : List (Vert Float)). Kept g s (row g s ts (step g s t d)) (rowList neg (g .zero) ts l)) (w .lists-after) (rows ts (step g s t d) (w .fine-after))
 
+  -- a fine record has demand 3
+  pub fine-demand3 : (d : PlineViewData) → Fine d → Demand3 g s d
+  fine-demand3 d f = record { rows = λ ts. rows ts d f }
+
 -- demand 3
 pub demand3 : (g : Grade) (s : List Float) (d : PlineViewData) → Unrefused g s d → Even g d → Demand3 g s d
 unfolding listOf
-demand3 g s d u even =
-    let f : Fine g s d = record { clear = checked g s d _ (sym (u .answer)); even = λ e. same-bits g _ _ (even e) } in
-    record { rows = λ ts. rows g s ts d f }
+demand3 g s d u even = fine-demand3 g s d (record { clear = checked g s d _ (sym (u .answer)); even = λ e. same-bits g _ _ (even e) })

@@ -5,6 +5,5 @@ pub mod Demand3
 pub mod Replies
 pub mod Shape
 pub mod Table
-pub mod Segments
 pub mod Cut
 pub mod Made

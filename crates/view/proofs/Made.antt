@@ -1,104 +1,122 @@
--- What `create` and `from_new_start` answer lists without refusal, and has equal bulges where its offset is 0, so reversal and trim take it.
-use mathlib.Core.Path.{_≡_, refl, sym, ap, subst, _∙_}
+-- What `create` and `from_new_start` answer passes the checks, and has equal bulges where its offset is 0: only an end on top of the next vertex has offset 0, and it takes the start's bulge.
+use mathlib.Core.Path.{_≡_, refl, sym, ap, subst}
 use mathlib.Core.Bool.{Bool, true, false, cond}
-use mathlib.Core.List.{List}
+use mathlib.Core.List.{List, [], _∷_}
 use Prim.Native.Nat.{ℕ, _+_, _-_, _<_, _≤_}
 use native.Mathlib.Nat.{mod-lt}
 use native.Mathlib.Omega.{arith}
 use lib.Dec.{ltb, eqb}
-use lib.Ieee.{Float}
-use borrow.Author.Tests.{ltb-true, leb-true, le-leb, eq-eqb}
+use lib.Ieee.{Float, neg, add, sub, mul, ofBits, ofFields, odd, le, lt, eq}
+use borrow.Author.Tests.{ltb-true, leb-true, eq-eqb}
 use Rattle.real.specs.Refusal.{badNumber, badTolerance, badOutline, badIndex, badOffset, notClosed}
 use Rattle.real.specs.Reply.{given}
-use Rattle.plane.specs.Grade.{Grade}
+use Rattle.real.specs.Root.{absOf}
+use Rattle.plane.specs.Grade.{Grade, double}
 use Rattle.plane.specs.Vec.{vnearOf}
-use Rattle.plane.specs.Vertex.{posOf}
-use Rattle.plane.specs.Range.{tolOk, coordOk, bulgeOk, pointOk, vertexOk}
+use Rattle.plane.specs.Vertex.{vertexAt, posOf}
+use Rattle.plane.specs.Range.{wholeOutline, tolOk, coordOk, bulgeOk, pointOk, vertexOk, segOk}
 use Rattle.plane.specs.declared.vector2.Vector2.{Vector2}
 use Rattle.plane.specs.declared.pline_vertex.PlineVertex.{PlineVertex}
-use Rattle.seg.specs.Split.{splitOf}
-use Rattle.seg.proofs.HalfCircle.{Sound, stays-in-range}
-use Rattle.view.specs.Outline.{vertexOf, countOf, viewable, numbersOk}
-use Rattle.view.specs.Record.{recordOk, vertices, needed}
-use Rattle.view.specs.Answers.{listOf}
-use Rattle.view.specs.Demand3.{Unrefused}
+use Rattle.seg.specs.Cases.{half, minusHalf, vec}
+use Rattle.seg.proofs.HalfCircle.{Sound, double-sound, stays-in-range, InRange}
+use Rattle.lists.specs.Plain.{tab, turn, turnAt, turnList, stepList, rowList}
+use Rattle.lists.specs.View.{forward, viewList, vertexAt as positionAt}
+use Rattle.view.specs.Outline.{vertexOf, countOf, viewable, all, numbersOk}
+use Rattle.view.specs.Record.{recordOk}
+use Rattle.view.specs.Segment.{splitSegment}
+use Rattle.view.specs.Rows.{row}
+use Rattle.view.specs.Demand3.{Lists, MadeDemand3}
+use Rattle.view.specs.Cases.{vert, Q, arc}
 use Rattle.view.specs.Create.{nextOf, prevOf, ending, forwardData, endOnTop, endOnSegment, endingOf, endedAt, createOf, movedOn, roundEnding, roundFrom, newStartOf}
 use Rattle.view.specs.declared.view_data.PlineViewData.{PlineViewData}
 use Rattle.view.specs.declared.ending.Ending.{Ending}
 use Rattle.view.proofs.All.{and-both}
-use Rattle.view.proofs.Checks.{check-passed, viewable-in, checked-rest}
-use Rattle.view.proofs.Segments.{told, vertex-in, segment-in}
-use Rattle.view.proofs.Demand3.{Fine}
+use Rattle.view.proofs.Checks.{check-passed, viewable-in, vertex-in}
+use Rattle.view.proofs.Demand3.{Fine, fine-demand3}
+open Grade double using (zero, four)
 
 -- a vertex in range has its bulge in range
 bulge-in : (g : Grade) (v : PlineVertex) → vertexOk g v ≡ true → bulgeOk g (v .bulge) ≡ true
 unfolding vertexOk
 bulge-in g v e = and-both (coordOk g (v .y)) _ (and-both (coordOk g (v .x)) _ e .1) .1
 
+same-given : {A : Type 0} {x y : A} → given x ≡ given y → y ≡ x
+same-given e = cc
+
 -- either way of a test
 either : {A : Type 0} (P : A → Type 0) (t : Bool) {x y : A} → (t ≡ true → P x) → (t ≡ false → P y) → P (cond t x y)
 either P true p q = p refl
 either P false p q = q refl
 
-module _ (g : Grade) (sound : Sound g) (limit : Float) (s : List Float) (outline : viewable s ≡ true) (numbers : numbersOk g s ≡ true) (p : Vector2) (point : pointOk g p ≡ true) (eps : Float) (tolerance : tolOk g eps ≡ true) where
-  some : 0 < countOf s
-  some = omega (arith, viewable-in s outline .0)
+-- what both calls have checked of their outline, point and tolerance
+record Asked (g : Grade) (s : List Float) (p : Vector2) (eps : Float) : Type 0 where
+  outline : viewable s ≡ true
+  numbers : numbersOk g s ≡ true
+  point : pointOk g p ≡ true
+  tolerance : tolOk g eps ≡ true
 
-  -- a forward record whose parts are in range
-  made : (start : ℕ) (first : PlineVertex) (e : Ending) → start < countOf s → vertexOk g first ≡ true → e .offset ≤ countOf s → bulgeOk g (e .bulge) ≡ true → (e .offset ≡ 0 → first .bulge ≡ e .bulge) → Fine g s (forwardData start first p e)
-  unfolding recordOk
-  made start first e h v l b even =
-      let n = viewable-in s outline in
-      record {
-        clear = record { outline = outline; numbers = numbers; record-in = simp (v, b, point); placed = record { few = n .1; two = n .0; start = h; offset = l } };
-        even = even;
-      }
+-- how a view from a vertex with bulge b ends
+record Ended (g : Grade) (b : Float) (e : Ending) : Type 0 where
+  bulge-ok : bulgeOk g (e .bulge) ≡ true
+  even : e .offset ≡ 0 → b ≡ e .bulge
+
+module _ (g : Grade) (s : List Float) (p : Vector2) (eps : Float) (a : Asked g s p eps) where
+  size : 2 ≤ countOf s
+  size = viewable-in s (a .outline) .0
 
   next-in : (k : ℕ) → nextOf s k < countOf s
-  next-in k = mod-lt (k + 1) some
+  next-in k = mod-lt (k + 1) (omega (arith, size))
 
-  prev-in : (k : ℕ) → bulgeOk g (vertexOf s (prevOf s k) .bulge) ≡ true
-  prev-in k = bulge-in g (vertexOf s (prevOf s k)) (vertex-in g s numbers (prevOf s k) (mod-lt (k + (countOf s - 1)) some))
+  prev-in : (k : ℕ) → bulgeOk g (prevOf s k .bulge) ≡ true
+  prev-in k = bulge-in g _ (vertex-in g s (a .numbers) _ (mod-lt (k + (countOf s - 1)) (omega (arith, size))))
 
-  split-in : (k : ℕ) → k < countOf s → let r = splitOf g limit (vertexOf s k) (vertexOf s (nextOf s k)) p eps in (vertexOk g (r .«updated_start») ≡ true) × (vertexOk g (r .«split_vertex») ≡ true)
-  split-in k h = stays-in-range g sound limit (vertexOf s k) (vertexOf s (nextOf s k)) p eps (segment-in g s numbers k (nextOf s k) h (next-in k)) point tolerance
+  -- a forward record whose parts are in range
+  made : (start : ℕ) (first : PlineVertex) (e : Ending) → start < countOf s → vertexOk g first ≡ true → e .offset ≤ countOf s → Ended g (first .bulge) e → Fine g s (forwardData start first p e)
+  unfolding recordOk
+  made start first e h v l x =
+      let n = viewable-in s (a .outline) in
+      record {
+        clear = record { outline = a .outline; numbers = a .numbers; record-in = simp (v, x .bulge-ok, a .point); placed = record { few = n .1; two = n .0; start = h; offset = l } };
+        even = x .even;
+      }
 
-  -- how a view that is created ends
-  pub record Ended (b : Float) (e : Ending) : Type 0 where
-    pub bulge-ok : bulgeOk g (e .bulge) ≡ true
-    pub even : e .offset ≡ 0 → b ≡ e .bulge
-
-  ends : (at : ℕ) (b : Float) (traverse : ℕ) → at < countOf s → bulgeOk g b ≡ true → 0 < traverse → Ended b (endingOf g limit s p at b traverse eps)
-  unfolding endingOf endOnTop endOnSegment
-  ends at b traverse h ok t =
-      either (Ended b) (vnearOf g p (posOf (vertexOf s at)) eps)
-      (λ _. record { bulge-ok = either (λ (x : Float). bulgeOk g x ≡ true) (eqb (traverse - 1) 0) (λ _. ok) (λ _. prev-in at); even = λ z. sym (ap (λ (f : Bool). cond f b (vertexOf s (prevOf s at) .bulge)) (eq-eqb (traverse - 1) 0 z)) })
-      (λ _. record { bulge-ok = bulge-in g _ (split-in at h .0); even = λ z. absurd (omega arith) })
-
-  -- `endedAt` gives a fine record, or nothing
-  ended-fine : (start : ℕ) (first : PlineVertex) (e : Ending) (d : PlineViewData) → start < countOf s → vertexOk g first ≡ true → Ended (first .bulge) e → given d ≡ endedAt g limit s start p first e → Fine g s d
+  -- `endedAt` gives such a record, or nothing
+  ended-fine : (start : ℕ) (first : PlineVertex) (e : Ending) (d : PlineViewData) → start < countOf s → vertexOk g first ≡ true → Ended g (first .bulge) e → given d ≡ endedAt s start p first e → Fine g s d
   unfolding endedAt
   ended-fine start first e d h v x q =
       let l = check-passed badOffset (given (forwardData start first p e)) q in
-      let same : forwardData start first p e ≡ d = told (sym (l .1)) refl in
-      subst (Fine g s) same (made start first e h v (leb-true _ _ (l .0)) (x .bulge-ok) (x .even))
+      let same : forwardData start first p e ≡ d = same-given (l .1) in
+      subst (Fine g s) same (made start first e h v (leb-true _ _ (l .0)) x)
 
-  -- the view round the whole outline from segment k
-  round-fine : (k : ℕ) → k < countOf s → Fine g s (roundFrom g limit s p k eps)
-  unfolding roundFrom roundEnding
-  round-fine k h =
-      let two = viewable-in s outline .0 in
-      let split = splitOf g limit (vertexOf s k) (vertexOf s (nextOf s k)) p eps in
-      either (λ (e : Ending). Fine g s (forwardData k (split .«split_vertex») p e)) (vnearOf g (posOf (vertexOf s k)) p eps)
-      (λ _. made k (split .«split_vertex») (ending (countOf s - 1) (vertexOf s (prevOf s k) .bulge)) h (split-in k h .1) (omega arith) (prev-in k) (λ z. absurd (omega arith)))
-      (λ _. made k (split .«split_vertex») (ending (countOf s) (split .«updated_start» .bulge)) h (split-in k h .1) (omega arith) (bulge-in g _ (split-in k h .0)) (λ z. absurd (omega arith)))
-
-  moved-in : (k : ℕ) → k < countOf s → movedOn g limit s p k eps < countOf s
+  moved-in : (k : ℕ) → k < countOf s → movedOn g s p k eps < countOf s
   unfolding movedOn
   moved-in k h = either (λ (n : ℕ). n < countOf s) (vnearOf g (posOf (vertexOf s (nextOf s k))) p eps) (λ _. next-in k) (λ _. h)
 
+  module _ (sound : Sound g) (limit : Float) where
+    split-in : (k : ℕ) → k < countOf s → InRange g (splitSegment g limit s k p eps)
+    unfolding segOk
+    split-in k h = stays-in-range g sound limit (vertexOf s k) (vertexOf s (nextOf s k)) p eps (simp (vertex-in g s (a .numbers) k h, vertex-in g s (a .numbers) (nextOf s k) (next-in k))) (a .point) (a .tolerance)
+
+    -- how a view that is created ends
+    ends : (at : ℕ) (b : Float) (traverse : ℕ) → at < countOf s → bulgeOk g b ≡ true → 0 < traverse → Ended g b (endingOf g limit s p at b traverse eps)
+    unfolding endingOf endOnTop endOnSegment
+    ends at b traverse h ok t =
+        either (Ended g b) (vnearOf g p (posOf (vertexOf s at)) eps)
+        (λ _. record { bulge-ok = either (λ (x : Float). bulgeOk g x ≡ true) (eqb (traverse - 1) 0) (λ _. ok) (λ _. prev-in at); even = λ z. sym (ap (λ (f : Bool). cond f b (prevOf s at .bulge)) (eq-eqb (traverse - 1) 0 z)) })
+        (λ _. record { bulge-ok = bulge-in g _ (split-in at h .0); even = λ z. absurd (omega arith) })
+
+    -- the view round the whole outline from segment k
+    round-fine : (k : ℕ) → k < countOf s → Fine g s (roundFrom g limit s p k eps)
+    unfolding roundFrom roundEnding
+    round-fine k h =
+        let two = size in
+        let split = splitSegment g limit s k p eps in
+        either (λ (e : Ending). Fine g s (forwardData k (split .«split_vertex») p e)) (vnearOf g (posOf (vertexOf s k)) p eps)
+        (λ _. made k (split .«split_vertex») (ending (countOf s - 1) (prevOf s k .bulge)) h (split-in k h .1) (omega arith) (record { bulge-ok = prev-in k; even = λ z. absurd (omega arith) }))
+        (λ _. made k (split .«split_vertex») (ending (countOf s) (split .«updated_start» .bulge)) h (split-in k h .1) (omega arith) (record { bulge-ok = bulge-in g _ (split-in k h .0); even = λ z. absurd (omega arith) }))
+
 module _ (g : Grade) (sound : Sound g) (limit : Float) (s : List Float) (p : Vector2) (eps : Float) (d : PlineViewData) where
-  pub create-fine : (start at : ℕ) (first : PlineVertex) (traverse : ℕ) → createOf g limit s start p at first traverse eps ≡ given d → Fine g s d
+  create-fine : (start at : ℕ) (first : PlineVertex) (traverse : ℕ) → createOf g limit s start p at first traverse eps ≡ given d → Fine g s d
   unfolding createOf
   create-fine start at first traverse q =
       let o = check-passed badOutline _ (sym q) in
@@ -109,11 +127,11 @@ module _ (g : Grade) (sound : Sound g) (limit : Float) (s : List Float) (p : Vec
       let c = check-passed badOffset _ (t .1) in
       let i = check-passed badIndex _ (c .1) in
       let b = and-both (ltb start (countOf s)) _ (i .0) in
-      let e = endingOf g limit s p at (first .bulge) traverse eps in
-      ended-fine g sound limit s (o .0) (n₁ .0) p (n₂ .0) eps (t .0) start first e d (ltb-true _ _ (b .0)) (n₂ .1)
-      (ends g sound limit s (o .0) (n₁ .0) p (n₂ .0) eps (t .0) at (first .bulge) traverse (ltb-true _ _ (b .1)) (bulge-in g first (n₂ .1)) (ltb-true _ _ (c .0))) (i .1)
+      let a : Asked g s p eps = record { outline = o .0; numbers = n₁ .0; point = n₂ .0; tolerance = t .0 } in
+      ended-fine g s p eps a start first _ d (ltb-true _ _ (b .0)) (n₂ .1)
+      (ends g s p eps a sound limit at (first .bulge) traverse (ltb-true _ _ (b .1)) (bulge-in g first (n₂ .1)) (ltb-true _ _ (c .0))) (i .1)
 
-  pub new-start-fine : (closed : Bool) (start : ℕ) → newStartOf g limit s closed p start eps ≡ given d → Fine g s d
+  new-start-fine : (closed : Bool) (start : ℕ) → newStartOf g limit s closed p start eps ≡ given d → Fine g s d
   unfolding newStartOf
   new-start-fine closed start q =
       let o = check-passed badOutline _ (sym q) in
@@ -121,12 +139,29 @@ module _ (g : Grade) (sound : Sound g) (limit : Float) (s : List Float) (p : Vec
       let n₁ = and-both (numbersOk g s) _ (n .0) in
       let t = check-passed badTolerance _ (n .1) in
       let c = check-passed {b = closed} notClosed _ (t .1) in
-      let k = movedOn g limit s p start eps in
+      let k = movedOn g s p start eps in
       let i = check-passed badIndex (given (roundFrom g limit s p k eps)) (c .1) in
-      let same : roundFrom g limit s p k eps ≡ d = told (sym (i .1)) refl in
-      subst (Fine g s) same (round-fine g sound limit s (o .0) (n₁ .0) p (n₁ .1) eps (t .0) k (moved-in g sound limit s (o .0) (n₁ .0) p (n₁ .1) eps (t .0) start (ltb-true _ _ (i .0))))
+      let a : Asked g s p eps = record { outline = o .0; numbers = n₁ .0; point = n₁ .1; tolerance = t .0 } in
+      let same : roundFrom g limit s p k eps ≡ d = same-given (i .1) in
+      subst (Fine g s) same (round-fine g s p eps a sound limit k (moved-in g s p eps a start (ltb-true _ _ (i .0))))
 
--- a fine record lists without refusal
-pub fine-lists : (g : Grade) (s : List Float) (d : PlineViewData) → Fine g s d → Unrefused g s d
-unfolding listOf
-fine-lists g s d f = record { buffer = needed d; count = vertices d; answer = checked-rest g s d _ (f .clear) ∙ simp (le-leb (needed d) (needed d) (omega arith)) }
+pub made-demand3 : (g : Grade) → Sound g → (limit : Float) → MadeDemand3 g limit
+made-demand3 g sound limit =
+    record {
+      created = λ s start p at first traverse eps d q. fine-demand3 g s d (create-fine g sound limit s p eps d start at first traverse q);
+      started = λ s closed p start eps d q. fine-demand3 g s d (new-start-fine g sound limit s p eps d closed start q);
+    }
+
+-- at f64
+pub made-demand3-f64 : MadeDemand3 double (double .line)
+made-demand3-f64 = made-demand3 double double-sound (double .line)
+
+-- offset 0 on Q, from vertex 1 to the next one: the last bulge is the start's, not that of the vertex before the end
+pub arc-made : createOf double (double .line) Q 1 (vec four four) 2 (vertexAt four zero half) 1 (double .fuzz) ≡ given arc
+unfolding Q arc createOf endingOf endOnTop endedAt viewable wholeOutline all numbersOk coordOk bulgeOk pointOk vertexOk tolOk absOf add sub mul le lt eq ofBits ofFields odd
+arc-made = refl
+
+-- and turned round it lists the arc from its end
+pub arc-turned : Lists double Q (row double Q (turn ∷ []) arc) (vert four four minusHalf ∷ vert four zero zero ∷ [])
+unfolding Q arc rowList stepList turnList turnAt viewList positionAt forward tab neg ofBits
+arc-turned = made-demand3-f64 .created Q 1 (vec four four) 2 _ 1 (double .fuzz) arc arc-made .rows (turn ∷ []) .lists

@@ -11,17 +11,15 @@ use lib.Ieee.{Float, neg}
 use borrow.Author.Tests.{lt-ltb}
 use Rattle.real.specs.Reply.{given}
 use Rattle.plane.specs.Grade.{Grade}
-use Rattle.plane.specs.Range.{vertexOk}
 use Rattle.lists.specs.Plain.{Vert, at}
 use Rattle.lists.specs.View.{viewList}
-use Rattle.view.specs.Outline.{vertexOf, countOf, ofVert, srcOf, numbersOk}
-use Rattle.view.specs.Record.{viewOf, vertices, listed, pastOk, readsOk}
+use Rattle.view.specs.Outline.{countOf, ofVert, srcOf}
+use Rattle.view.specs.Record.{viewOf, vertices, listed, pastOk, turnedOk, readsOk}
 use Rattle.view.specs.Needs.{Placed}
 use Rattle.view.specs.Answers.{getVertexOf}
 use Rattle.view.specs.declared.view_data.PlineViewData.{PlineViewData}
 use Rattle.lists.proofs.Tab.{getD-tab}
-use Rattle.view.proofs.All.{all-each}
-use Rattle.view.proofs.Checks.{Checked, place-rest}
+use Rattle.view.proofs.Checks.{Checked, place-rest, vertex-in}
 use Rattle.lists.proofs.Listing.{length-list, ends-in-zero}
 
 module _ (g : Grade) (s : List Float) (d : PlineViewData) where
@@ -34,11 +32,11 @@ module _ (g : Grade) (s : List Float) (d : PlineViewData) where
   -- and each lookup by position answers the list's vertex
   module _ (c : Checked g s d) where
     past : (steps : ℕ) → pastOk g s (d .«start_index») steps ≡ true
-    unfolding pastOk numbersOk
-    past steps = all-each (λ i. vertexOk g (vertexOf s i)) (countOf s) (c .numbers) _ (mod-lt _ (omega (arith, c .placed)))
+    unfolding pastOk
+    past steps = vertex-in g s (c .numbers) _ (mod-lt _ (omega (arith, c .placed)))
 
     reads : (k : ℕ) → readsOk g s d k ≡ true
-    unfolding readsOk
+    unfolding readsOk turnedOk
     reads k = simp past (same (eqb k 0 || ltb (d .«end_index_offset») k) (d .«inverted_direction») (eqb k (d .«end_index_offset»)))
       where
         same : (a b e : Bool) → cond a true (cond b (true && (e || true)) true) ≡ true

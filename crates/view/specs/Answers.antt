@@ -1,19 +1,18 @@
 -- What each public call answers, as a chain of refusals in document 01's order and then the value, and what a lent buffer holds afterwards.
-use Prim.Native.Nat.{ℕ, _+_}
+use Prim.Native.Nat.{ℕ}
 use mathlib.Core.Bool.{_&&_}
 use mathlib.Core.List.{List, _++_}
 use lib.ListN.{length, drop}
 use lib.Dec.{ltb, leb}
 use lib.Ieee.{Float}
-use Rattle.real.specs.Refusal.{badNumber, badOutline, badIndex, unevenBulges, noRoom, badTrim}
+use Rattle.real.specs.Refusal.{badNumber, badOutline, badIndex, noRoom, badTrim}
 use Rattle.real.specs.Reply.{Reply, refused, given, check}
 use Rattle.plane.specs.Grade.{Grade}
 use Rattle.plane.specs.declared.pline_vertex.PlineVertex.{PlineVertex}
 use Rattle.lists.specs.Plain.{flat}
-use Rattle.lists.specs.View.{turnView, trimView}
-use Rattle.view.specs.Outline.{countOf, srcOf, viewable}
-use Rattle.view.specs.Record.{viewOf, dataOf, vertices, needed, evenBits, vertexAtOf, listed, recordOk, readsOk}
-use Rattle.view.specs.Check.{placeOf, checkOf}
+use Rattle.view.specs.Outline.{viewable}
+use Rattle.view.specs.Record.{turnedOf, trimmedOf, vertices, needed, vertexAtOf, listed, recordOk, readsOk}
+use Rattle.view.specs.Check.{placeOf, checkOf, evenOf}
 use Rattle.view.specs.declared.view_data.PlineViewData.{PlineViewData}
 use Rattle.view.specs.declared.view_data.ViewAnswer.{ViewAnswer}
 use Rattle.view.specs.declared.view_data.ViewAnswer.the-variants as view
@@ -61,12 +60,8 @@ module _ (g : Grade) (s : List Float) (d : PlineViewData) where
 
   -- the record turned round: 3, 1, 5, 4, 7
   unfoldable pub reverseOf : Reply PlineViewData
-  reverseOf = checkOf g s d (check (evenBits g d) unevenBulges (given (dataOf (turnView (viewOf d)))))
+  reverseOf = evenOf g s d (given (turnedOf d))
 
   -- the record of positions i to j: 3, 1, 5, 4, 7, 9, where 9 is "trim without 0 <= i < j <= offset + 1"
   unfoldable pub trimOf : ℕ → ℕ → Reply PlineViewData
-  trimOf i j =
-      checkOf g s d
-      (check (evenBits g d) unevenBulges
-      (check (ltb i j && ltb j (vertices d)) badTrim
-      (given (dataOf (trimView (g .zero) (srcOf s) (countOf s) i j (viewOf d))))))
+  trimOf i j = evenOf g s d (check (ltb i j && ltb j (vertices d)) badTrim (given (trimmedOf g s d i j)))

@@ -1,4 +1,4 @@
--- The outline Q and the record R of document 01's cases.
+-- The outline Q and the record R of document 01's cases, and a record of one segment of Q.
 use mathlib.Core.Bool.{false}
 use mathlib.Core.List.{List, [], _∷_}
 use Prim.Native.Nat.{ℕ}
@@ -32,3 +32,15 @@ like-R offset p =
 
 abbrev pub R : PlineViewData
 R = like-R 2 (vec two four)
+
+-- the arc of Q alone: a record with offset 0
+unfoldable pub arc : PlineViewData
+arc =
+    record {
+      «start_index» = 1;
+      «end_index_offset» = 0;
+      «updated_start» = vertexAt four zero half;
+      «updated_end_bulge» = half;
+      «end_point» = vec four four;
+      «inverted_direction» = false;
+    }

@@ -3,11 +3,11 @@ use mathlib.Core.Bool.{_&&_}
 use mathlib.Core.List.{List}
 use lib.Dec.{ltb, leb}
 use lib.Ieee.{Float}
-use Rattle.real.specs.Refusal.{badNumber, badOutline, badIndex, badOffset}
+use Rattle.real.specs.Refusal.{badNumber, badOutline, badIndex, badOffset, unevenBulges}
 use Rattle.real.specs.Reply.{Reply, refused, given, check}
 use Rattle.plane.specs.Grade.{Grade}
 use Rattle.view.specs.Outline.{countOf, viewable, numbersOk}
-use Rattle.view.specs.Record.{recordOk}
+use Rattle.view.specs.Record.{recordOk, evenBits}
 use Rattle.view.specs.declared.check.Check.{Check}
 use Rattle.view.specs.declared.check.Check.the-variants as check-case
 use Rattle.view.specs.declared.view_data.PlineViewData.{PlineViewData}
@@ -28,3 +28,7 @@ module _ {A : Type 0} where
   -- 3, 1, 5, 4: what every view call checks first, but lookup by position and validation. "All other view calls check the whole outline."
   unfoldable pub checkOf : Grade → List Float → PlineViewData → Reply A → Reply A
   checkOf g s d rest = check (viewable s) badOutline (check (numbersOk g s && recordOk g d) badNumber (placeOf s d rest))
+
+  -- 3, 1, 5, 4, 7: what reversal and trim check first; 7 is "offset 0 and bulges of unequal bits"
+  unfoldable pub evenOf : Grade → List Float → PlineViewData → Reply A → Reply A
+  evenOf g s d rest = checkOf g s d (check (evenBits g d) unevenBulges rest)

@@ -12,19 +12,19 @@ use Rattle.plane.specs.Vertex.{posOf}
 use Rattle.plane.specs.Range.{tolOk, pointOk, vertexOk}
 use Rattle.plane.specs.declared.vector2.Vector2.{Vector2}
 use Rattle.plane.specs.declared.pline_vertex.PlineVertex.{PlineVertex}
-use Rattle.seg.specs.Split.{splitOf}
 use Rattle.seg.specs.declared.split.SplitResult.{SplitResult}
 use Rattle.lists.specs.View.{wrapped}
-use Rattle.view.specs.Outline.{vertexOf, countOf, viewable, numbersOk}
+use Rattle.view.specs.Outline.{vertexOf, countOf, vertexPast, viewable, numbersOk}
+use Rattle.view.specs.Segment.{splitSegment}
 use Rattle.view.specs.declared.view_data.PlineViewData.{PlineViewData}
 use Rattle.view.specs.declared.ending.Ending.{Ending}
 
--- `next_wrapping_index` and `prev_wrapping_index`
+-- `next_wrapping_index`, and the vertex at `prev_wrapping_index`
 abbrev pub nextOf : List Float → ℕ → ℕ
 nextOf s k = wrapped k 1 (countOf s)
 
-abbrev pub prevOf : List Float → ℕ → ℕ
-prevOf s k = wrapped k (countOf s - 1) (countOf s)
+abbrev pub prevOf : List Float → ℕ → PlineVertex
+prevOf s k = vertexPast s k (countOf s - 1)
 
 -- an offset and the bulge of the view's last segment
 abbrev pub ending : ℕ → Float → Ending
@@ -44,56 +44,57 @@ forwardData start first p e =
 
 -- `create`, "intersect lies on top of vertex at start of segment"
 unfoldable pub endOnTop : List Float → ℕ → Float → ℕ → Ending
-endOnTop s at b traverse = ending (traverse - 1) (cond (eqb (traverse - 1) 0) b (vertexOf s (prevOf s at) .bulge))
+endOnTop s at b traverse = ending (traverse - 1) (cond (eqb (traverse - 1) 0) b (prevOf s at .bulge))
 
-module _ (g : Grade) (limit : Float) (s : List Float) where
-  -- ---- create
+-- the record, or 5 for "a resulting offset above the vertex count"
+unfoldable pub endedAt : List Float → ℕ → Vector2 → PlineVertex → Ending → Reply PlineViewData
+endedAt s start p first e = check (leb (e .offset) (countOf s)) badOffset (given (forwardData start first p e))
 
-  -- "trim bulge to intersect position"
-  unfoldable pub endOnSegment : ℕ → Vector2 → ℕ → Float → Ending
-  endOnSegment at p traverse eps = ending traverse (splitOf g limit (vertexOf s at) (vertexOf s (nextOf s at)) p eps .«updated_start» .bulge)
-
-  unfoldable pub endingOf : Vector2 → ℕ → Float → ℕ → Float → Ending
-  endingOf p at b traverse eps = cond (vnearOf g p (posOf (vertexOf s at)) eps) (endOnTop s at b traverse) (endOnSegment at p traverse eps)
-
-  -- the record, or 5 for "a resulting offset above the vertex count"
-  unfoldable pub endedAt : ℕ → Vector2 → PlineVertex → Ending → Reply PlineViewData
-  endedAt start p first e = check (leb (e .offset) (countOf s)) badOffset (given (forwardData start first p e))
-
-  -- 3, 1, 2; then "a traverse count of 0 is refused 5, then a bad index 4, then a resulting offset above the vertex count 5"
-  unfoldable pub createOf : ℕ → Vector2 → ℕ → PlineVertex → ℕ → Float → Reply PlineViewData
-  createOf start p at first traverse eps =
-      check (viewable s) badOutline
-      (check (numbersOk g s && (pointOk g p && vertexOk g first)) badNumber
-      (check (tolOk g eps) badTolerance
-      (check (ltb 0 traverse) badOffset
-      (check (ltb start (countOf s) && ltb at (countOf s)) badIndex
-      (endedAt start p first (endingOf p at (first .bulge) traverse eps))))))
-
-  -- ---- from_new_start
-
-  -- "catch where start point is at very end of start index segment (and adjust forward)"
-  unfoldable pub movedOn : Vector2 → ℕ → Float → ℕ
-  movedOn p k eps = cond (vnearOf g (posOf (vertexOf s (nextOf s k))) p eps) (nextOf s k) k
+module _ (g : Grade) where
+  -- `from_new_start`, "catch where start point is at very end of start index segment (and adjust forward)"
+  unfoldable pub movedOn : List Float → Vector2 → ℕ → Float → ℕ
+  movedOn s p k eps = cond (vnearOf g (posOf (vertexOf s (nextOf s k))) p eps) (nextOf s k) k
 
   -- "start point on top of vertex, adjust index offset and do not use split bulge"
-  unfoldable pub roundEnding : Vector2 → ℕ → Float → SplitResult → Ending
-  roundEnding p k eps split =
-      cond (vnearOf g (posOf (vertexOf s k)) p eps) (ending (countOf s - 1) (vertexOf s (prevOf s k) .bulge))
+  unfoldable pub roundEnding : List Float → Vector2 → ℕ → Float → SplitResult → Ending
+  roundEnding s p k eps split =
+      cond (vnearOf g (posOf (vertexOf s k)) p eps) (ending (countOf s - 1) (prevOf s k .bulge))
       (ending (countOf s) (split .«updated_start» .bulge))
 
-  -- the whole outline from a point on segment k
-  unfoldable pub roundFrom : Vector2 → ℕ → Float → PlineViewData
-  roundFrom p k eps =
-      let split = splitOf g limit (vertexOf s k) (vertexOf s (nextOf s k)) p eps in
-      forwardData k (split .«split_vertex») p (roundEnding p k eps split)
+  module _ (limit : Float) (s : List Float) where
+    -- ---- create
 
-  -- 3, 1, 2, 10, 4
-  unfoldable pub newStartOf : Bool → Vector2 → ℕ → Float → Reply PlineViewData
-  newStartOf closed p start eps =
-      check (viewable s) badOutline
-      (check (numbersOk g s && pointOk g p) badNumber
-      (check (tolOk g eps) badTolerance
-      (check closed notClosed
-      (check (ltb start (countOf s)) badIndex
-      (given (roundFrom p (movedOn p start eps) eps))))))
+    -- "trim bulge to intersect position"
+    unfoldable pub endOnSegment : ℕ → Vector2 → ℕ → Float → Ending
+    endOnSegment at p traverse eps = ending traverse (splitSegment g limit s at p eps .«updated_start» .bulge)
+
+    unfoldable pub endingOf : Vector2 → ℕ → Float → ℕ → Float → Ending
+    endingOf p at b traverse eps = cond (vnearOf g p (posOf (vertexOf s at)) eps) (endOnTop s at b traverse) (endOnSegment at p traverse eps)
+
+    -- 3, 1, 2; then "a traverse count of 0 is refused 5, then a bad index 4, then a resulting offset above the vertex count 5"
+    unfoldable pub createOf : ℕ → Vector2 → ℕ → PlineVertex → ℕ → Float → Reply PlineViewData
+    createOf start p at first traverse eps =
+        check (viewable s) badOutline
+        (check (numbersOk g s && (pointOk g p && vertexOk g first)) badNumber
+        (check (tolOk g eps) badTolerance
+        (check (ltb 0 traverse) badOffset
+        (check (ltb start (countOf s) && ltb at (countOf s)) badIndex
+        (endedAt s start p first (endingOf p at (first .bulge) traverse eps))))))
+
+    -- ---- from_new_start
+
+    -- the whole outline from a point on segment k
+    unfoldable pub roundFrom : Vector2 → ℕ → Float → PlineViewData
+    roundFrom p k eps =
+        let split = splitSegment g limit s k p eps in
+        forwardData k (split .«split_vertex») p (roundEnding s p k eps split)
+
+    -- 3, 1, 2, 10, 4
+    unfoldable pub newStartOf : Bool → Vector2 → ℕ → Float → Reply PlineViewData
+    newStartOf closed p start eps =
+        check (viewable s) badOutline
+        (check (numbersOk g s && pointOk g p) badNumber
+        (check (tolOk g eps) badTolerance
+        (check closed notClosed
+        (check (ltb start (countOf s)) badIndex
+        (given (roundFrom p (movedOn s p start eps) eps))))))

@@ -1,6 +1,6 @@
--- Demand 3 of document 00, sentence by sentence, of the library's own answers: at any grade, and so at `double`. proofs/Demand3.antt proves it.
+-- Demand 3 of document 00, sentence by sentence, of the library's own answers: at any grade, and so at `double`. proofs/Demand3.antt proves it of every record that lists without refusal, proofs/Made.antt of what `create` and `from_new_start` answer.
 use mathlib.Core.Path.{_≡_}
-use mathlib.Core.Bool.{false, _&&_}
+use mathlib.Core.Bool.{Bool, false, _&&_}
 use mathlib.Core.List.{List, _++_}
 use Prim.Native.Nat.{ℕ, _*_, _-_, _<_, _≤_}
 use lib.ListN.{length, drop}
@@ -9,9 +9,12 @@ use lib.Ieee.{Float, neg, toBits, fits}
 use Rattle.real.specs.Refusal.{badTrim}
 use Rattle.real.specs.Reply.{refused, given}
 use Rattle.plane.specs.Grade.{Grade}
+use Rattle.plane.specs.declared.vector2.Vector2.{Vector2}
+use Rattle.plane.specs.declared.pline_vertex.PlineVertex.{PlineVertex}
 use Rattle.lists.specs.Plain.{Vert, Step, turn, trim, flat, rowList, PlainSteps}
 use Rattle.view.specs.Record.{listed}
 use Rattle.view.specs.Answers.{listOf, listBuffer, reverseOf, trimOf}
+use Rattle.view.specs.Create.{createOf, newStartOf}
 use Rattle.view.specs.Rows.{step, row}
 use Rattle.view.specs.declared.view_data.PlineViewData.{PlineViewData}
 
@@ -56,3 +59,10 @@ module _ (g : Grade) (s : List Float) where
   -- "Apply any row of reversals and trims."
   pub record Demand3 (d : PlineViewData) : Type 0 where
     pub rows : (ts : List Step) → Kept (row g s ts d) (rowList neg (g .zero) ts (listed g s d))
+
+-- What `create` and `from_new_start` answer has demand 3, whatever they are asked: it lists without refusal, and where its offset is 0 its two bulges are equal.
+pub record MadeDemand3 (g : Grade) (limit : Float) : Type 0 where
+  pub created : (s : List Float) (start : ℕ) (p : Vector2) (at : ℕ) (first : PlineVertex) (traverse : ℕ) (eps : Float) (d : PlineViewData)
+      → createOf g limit s start p at first traverse eps ≡ given d → Demand3 g s d
+  pub started : (s : List Float) (closed : Bool) (p : Vector2) (start : ℕ) (eps : Float) (d : PlineViewData)
+      → newStartOf g limit s closed p start eps ≡ given d → Demand3 g s d

@@ -10,6 +10,7 @@ use Rattle.plane.specs.Range.{wholeOutline, vertexOk}
 use Rattle.plane.specs.Vertex.{vertexAt}
 use Rattle.plane.specs.declared.pline_vertex.PlineVertex.{PlineVertex}
 use Rattle.lists.specs.Plain.{Vert}
+use Rattle.lists.specs.View.{wrapped}
 
 -- vertex k of an outline, and how many it has
 abbrev pub vertexOf : List Float → ℕ → PlineVertex
@@ -17,6 +18,10 @@ vertexOf s k = vertexAt (getD s (3 * k) nan) (getD s (3 * k + 1) nan) (getD s (3
 
 abbrev pub countOf : List Float → ℕ
 countOf s = length s / 3
+
+-- the vertex `steps` places past vertex k, wrapping
+abbrev pub vertexPast : List Float → ℕ → ℕ → PlineVertex
+vertexPast s k steps = vertexOf s (wrapped k steps (countOf s))
 
 -- the vertex struct as a plain vertex, and back
 abbrev pub vertOf : PlineVertex → Vert Float

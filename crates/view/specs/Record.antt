@@ -8,8 +8,8 @@ use Rattle.plane.specs.Grade.{Grade}
 use Rattle.plane.specs.Range.{bulgeOk, pointOk, vertexOk}
 use Rattle.plane.specs.declared.pline_vertex.PlineVertex.{PlineVertex}
 use Rattle.lists.specs.Plain.{Vert}
-use Rattle.lists.specs.View.{View, wrapped, forward, backward, vertexAt, viewList, part}
-use Rattle.view.specs.Outline.{vertexOf, countOf, vertOf, ofVert, srcOf}
+use Rattle.lists.specs.View.{View, forward, backward, vertexAt, viewList, turnView, part, trimView}
+use Rattle.view.specs.Outline.{countOf, vertexPast, vertOf, ofVert, srcOf}
 use Rattle.view.specs.declared.view_data.PlineViewData.{PlineViewData}
 
 -- the struct as a view, and back
@@ -35,6 +35,10 @@ dataOf r =
       «end_point» = record { x = r .endX; y = r .endY };
       «inverted_direction» = r .inverted;
     }
+
+-- the record turned round
+abbrev pub turnedOf : PlineViewData → PlineViewData
+turnedOf d = dataOf (turnView (viewOf d))
 
 -- how many vertices a view has, and how many numbers its list
 abbrev pub vertices : PlineViewData → ℕ
@@ -66,19 +70,24 @@ module _ (g : Grade) where
   abbrev pub partOf : List Float → PlineViewData → ℕ → ℕ → PlineViewData
   partOf s d a b = dataOf (part (g .zero) (srcOf s) (countOf s) a b (viewOf d))
 
+  -- the record of positions i to j of the view
+  abbrev pub trimmedOf : List Float → PlineViewData → ℕ → ℕ → PlineViewData
+  trimmedOf s d i j = dataOf (trimView (g .zero) (srcOf s) (countOf s) i j (viewOf d))
+
   -- the record's numbers are in range
   unfoldable pub recordOk : PlineViewData → Bool
   recordOk d = vertexOk g (d .«updated_start») && (bulgeOk g (d .«updated_end_bulge») && pointOk g (d .«end_point»))
 
   -- the vertex that lies `steps` past `start` is in range
   unfoldable pub pastOk : List Float → ℕ → ℕ → Bool
-  pastOk s start steps = vertexOk g (vertexOf s (wrapped start steps (countOf s)))
+  pastOk s start steps = vertexOk g (vertexPast s start steps)
 
-  -- "only the source vertices that it reads": at the first and the last position none; forward the k-th past the start;
-  -- inverted the one that stands there, and before position `offset` the one that its bulge is from
+  -- "only the source vertices that it reads": inverted the one that stands there, and before position `offset` the one that its bulge is from
+  unfoldable pub turnedOk : List Float → ℕ → ℕ → ℕ → Bool
+  turnedOk s start offset k = pastOk s start (offset + 1 - k) && (eqb k offset || pastOk s start (offset - k))
+
+  -- at the first and the last position none; forward the k-th past the start
   unfoldable pub readsOk : List Float → PlineViewData → ℕ → Bool
   readsOk s d k =
       cond (eqb k 0 || ltb (d .«end_index_offset») k) true
-      (cond (d .«inverted_direction»)
-      (pastOk s (d .«start_index») (d .«end_index_offset» + 1 - k) && (eqb k (d .«end_index_offset») || pastOk s (d .«start_index») (d .«end_index_offset» - k)))
-      (pastOk s (d .«start_index») k))
+      (cond (d .«inverted_direction») (turnedOk s (d .«start_index») (d .«end_index_offset») k) (pastOk s (d .«start_index») k))

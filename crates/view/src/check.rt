@@ -9,17 +9,26 @@ use real::BAD_INDEX;
 use real::BAD_NUMBER;
 use real::BAD_OFFSET;
 use real::BAD_OUTLINE;
+use real::UNEVEN_BULGES;
 use real::bits;
 ghost use mathlib.Core.Path.{_≡_};
 ghost use Rattle.plane.specs.Grade.{double};
 ghost use mathlib.Core.Bool.{_&&_};
+ghost use lib.Dec.{ltb};
 ghost use Rattle.view.specs.Outline.{numbersOk};
 ghost use Rattle.view.specs.Record.{recordOk, evenBits};
-ghost use Rattle.view.specs.Check.{pass, checkReply, placeOf, checkOf};
+ghost use Rattle.view.specs.Check.{pass, checkReply, placeOf, checkOf, evenOf};
 
 pub enum Check {
     Passed,
     Refused(u8),
+}
+
+// Two comparisons at once.
+pub fn both_less(a: usize, b: usize, c: usize, d: usize) -> bool
+    ensures { λ r. ⌜ r ≡ (ltb a b && ltb c d) ⌝ }
+{
+    a < b && c < d
 }
 
 // Whether the record's numbers are in range.
@@ -65,6 +74,20 @@ pub fn check_view(source: &[f64], d: PlineViewData) -> Check
         return Check::Refused(BAD_NUMBER);
     }
     check_place(source, d)
+}
+
+// What reversal and trim check first.
+pub fn check_even(source: &[f64], d: PlineViewData) -> Check
+    ensures { λ r. ⌜ checkReply r ≡ evenOf double (now (source .entry)) d pass ⌝ }
+{
+    let checked = check_view(source, d);
+    if let Check::Refused(n) = checked {
+        return Check::Refused(n);
+    }
+    if !has_even_bulges(d) {
+        return Check::Refused(UNEVEN_BULGES);
+    }
+    Check::Passed
 }
 
 // Whether a record with offset 0 has bulges of equal bits.

@@ -1,9 +1,11 @@
 // The crate's `PlineViewData::create`.
+use crate::check::both_less;
 use crate::ending::Ending;
-use crate::outline::fwd_wrapping_index;
 use crate::outline::serves_views;
 use crate::outline::vertex_at;
+use crate::outline::vertex_past;
 use crate::outline::vertices_in_range;
+use crate::segment::split_segment;
 use crate::view_data::PlineViewData;
 use crate::view_data::ViewAnswer;
 use plane::PlineVertex;
@@ -16,20 +18,18 @@ use real::BAD_NUMBER;
 use real::BAD_OFFSET;
 use real::BAD_OUTLINE;
 use real::BAD_TOLERANCE;
-use seg::split_at_point;
 ghost use mathlib.Core.Path.{_≡_};
 ghost use mathlib.Core.Bool.{_&&_};
-ghost use lib.Dec.{ltb};
 ghost use Rattle.plane.specs.Grade.{double};
 ghost use Rattle.plane.specs.Range.{pointOk, vertexOk};
 ghost use Rattle.view.specs.Outline.{numbersOk};
 ghost use Rattle.view.specs.Answers.{viewReply};
-ghost use Rattle.view.specs.Needs.{OnTop, Splits, Ends};
+ghost use Rattle.view.specs.Needs.{Index, Ends};
 ghost use Rattle.view.specs.Create.{endOnTop, endOnSegment, endingOf, endedAt, createOf};
 
 // The end on top of vertex `at`.
 fn end_on_top(source: &[f64], at: usize, b: f64, traverse: usize) -> Ending
-    requires { ⌜ OnTop (now source) at traverse ⌝ }
+    requires { ⌜ Ends (now source) at traverse ⌝ }
     ensures { λ r. ⌜ r ≡ endOnTop (now (source .entry)) at b traverse ⌝ }
 {
     let count = source.len() / 3;
@@ -37,7 +37,7 @@ fn end_on_top(source: &[f64], at: usize, b: f64, traverse: usize) -> Ending
     if offset == 0 {
         return Ending { offset, bulge: b };
     }
-    let v = vertex_at(source, fwd_wrapping_index(at, count - 1, count));
+    let v = vertex_past(source, at, count - 1);
     Ending {
         offset,
         bulge: v.bulge,
@@ -46,13 +46,10 @@ fn end_on_top(source: &[f64], at: usize, b: f64, traverse: usize) -> Ending
 
 // The end on segment `at`, whose bulge is trimmed to the point.
 fn end_on_segment(source: &[f64], at: usize, p: Vector2, traverse: usize, eps: f64) -> Ending
-    requires { ⌜ Splits double (now source) at p eps ⌝ }
+    requires { ⌜ Index (now source) at ⌝ }
     ensures { λ r. ⌜ r ≡ endOnSegment double (double .line) (now (source .entry)) at p traverse eps ⌝ }
 {
-    let count = source.len() / 3;
-    let v1 = vertex_at(source, at);
-    let v2 = vertex_at(source, fwd_wrapping_index(at, 1, count));
-    let split = split_at_point(v1, v2, p, eps);
+    let split = split_segment(source, at, p, eps);
     let start = split.updated_start;
     Ending {
         offset: traverse,
@@ -62,7 +59,7 @@ fn end_on_segment(source: &[f64], at: usize, p: Vector2, traverse: usize, eps: f
 
 // How the view ends, at a point on segment `at`.
 fn find_end(source: &[f64], p: Vector2, at: usize, b: f64, traverse: usize, eps: f64) -> Ending
-    requires { ⌜ Ends double (now source) at p traverse eps ⌝ }
+    requires { ⌜ Ends (now source) at traverse ⌝ }
     ensures { λ r. ⌜ r ≡ endingOf double (double .line) (now (source .entry)) p at b traverse eps ⌝ }
 {
     let v = vertex_at(source, at);
@@ -74,7 +71,7 @@ fn find_end(source: &[f64], p: Vector2, at: usize, b: f64, traverse: usize, eps:
 
 // The record, unless its offset is above the vertex count.
 fn ended_at(source: &[f64], start: usize, p: Vector2, first: PlineVertex, e: Ending) -> ViewAnswer
-    ensures { λ r. ⌜ viewReply r ≡ endedAt double (double .line) (now (source .entry)) start p first e ⌝ }
+    ensures { λ r. ⌜ viewReply r ≡ endedAt (now (source .entry)) start p first e ⌝ }
 {
     let offset = e.offset;
     if offset > source.len() / 3 {
@@ -94,12 +91,6 @@ fn all_in_range(source: &[f64], p: Vector2, first: PlineVertex) -> bool
     ensures { λ r. ⌜ r ≡ (numbersOk double (now (source .entry)) && (pointOk double p && vertexOk double first)) ⌝ }
 {
     vertices_in_range(source) && (point_in_range(p) && vertex_in_range(first))
-}
-
-fn both_below(a: usize, b: usize, count: usize) -> bool
-    ensures { λ r. ⌜ r ≡ (ltb a count && ltb b count) ⌝ }
-{
-    a < count && b < count
 }
 
 impl PlineViewData {
@@ -127,7 +118,8 @@ impl PlineViewData {
         if traverse == 0 {
             return ViewAnswer::Refused(BAD_OFFSET);
         }
-        if !both_below(start, at, source.len() / 3) {
+        let count = source.len() / 3;
+        if !both_less(start, count, at, count) {
             return ViewAnswer::Refused(BAD_INDEX);
         }
         let e = find_end(source, p, at, first.bulge, traverse, eps);

@@ -1,4 +1,4 @@
-// Views of an outline: the record, lookup by position, listing, reversal and trim.
+// Views of an outline: the record, how `create` and `from_new_start` make one, lookup by position, listing, reversal and trim, validation and the mark.
 mod check;
 mod create;
 mod ending;

@@ -2,15 +2,18 @@
 use crate::check::record_in_range;
 use crate::outline::fwd_wrapping_index;
 use crate::outline::vertex_at;
+use crate::outline::vertex_past;
 use crate::view_data::PlineViewData;
 use plane::PlineVertex;
 use plane::vertex_in_range;
 ghost use mathlib.Core.Path.{_≡_};
+ghost use lib.Ieee.{neg};
 ghost use Rattle.plane.specs.Grade.{double};
+ghost use Rattle.plane.specs.Vertex.{withBulgeOf};
 ghost use mathlib.Core.Bool.{_&&_};
-ghost use Rattle.view.specs.Record.{forwardOf, backwardOf, vertexAtOf, recordOk, pastOk, readsOk};
-ghost use Rattle.view.specs.Outline.{countOf};
-ghost use Rattle.view.specs.Needs.{Wraps, PlacedAt};
+ghost use Rattle.view.specs.Record.{forwardOf, backwardOf, vertexAtOf, recordOk, pastOk, turnedOk, readsOk};
+ghost use Rattle.view.specs.Outline.{countOf, vertexOf, vertexPast};
+ghost use Rattle.view.specs.Needs.{Wraps, Index, Inner, PlacedAt};
 
 // Position k of the view's forward list.
 pub fn forward(source: &[f64], d: PlineViewData, k: usize) -> PlineVertex
@@ -20,18 +23,26 @@ pub fn forward(source: &[f64], d: PlineViewData, k: usize) -> PlineVertex
     if k == 0 {
         return d.updated_start;
     }
-    let count = source.len() / 3;
     let start = d.start_index;
     let offset = d.end_index_offset;
     if k < offset {
-        return vertex_at(source, fwd_wrapping_index(start, k, count));
+        return vertex_past(source, start, k);
     }
     if k == offset {
-        let v = vertex_at(source, fwd_wrapping_index(start, offset, count));
-        return v.with_bulge(d.updated_end_bulge);
+        return vertex_past(source, start, offset).with_bulge(d.updated_end_bulge);
     }
     let p = d.end_point;
     PlineVertex::from_vector2(p, 0.0)
+}
+
+// The vertex after vertex k, with minus the bulge of the segment between them.
+fn turned_after(source: &[f64], k: usize) -> PlineVertex
+    requires { ⌜ Index (now source) k ⌝ }
+    ensures { λ r. ⌜ r ≡ withBulgeOf (vertexPast (now (source .entry)) k 1) (neg (vertexOf (now (source .entry)) k .bulge)) ⌝ }
+{
+    let next = vertex_past(source, k, 1);
+    let from = vertex_at(source, k);
+    next.with_bulge(-from.bulge)
 }
 
 // Position k of an inverted view.
@@ -47,15 +58,11 @@ fn backward(source: &[f64], d: PlineViewData, k: usize) -> PlineVertex
     let start = d.start_index;
     let offset = d.end_index_offset;
     if k < offset {
-        let bulge_i = fwd_wrapping_index(start, offset - k, count);
-        let i = fwd_wrapping_index(bulge_i, 1, count);
-        let from = vertex_at(source, bulge_i);
-        return vertex_at(source, i).with_bulge(-from.bulge);
+        return turned_after(source, fwd_wrapping_index(start, offset - k, count));
     }
     let u = d.updated_start;
     if k == offset {
-        let i = fwd_wrapping_index(start, offset - k + 1, count);
-        return vertex_at(source, i).with_bulge(-u.bulge);
+        return vertex_past(source, start, offset - k + 1).with_bulge(-u.bulge);
     }
     u.with_bulge(0.0)
 }
@@ -77,8 +84,16 @@ fn past_in_range(source: &[f64], start: usize, steps: usize) -> bool
     requires { ⌜ Wraps start steps (countOf (now source)) ⌝ }
     ensures { λ r. ⌜ r ≡ pastOk double (now (source .entry)) start steps ⌝ }
 {
-    let count = source.len() / 3;
-    vertex_in_range(vertex_at(source, fwd_wrapping_index(start, steps, count)))
+    vertex_in_range(vertex_past(source, start, steps))
+}
+
+// Whether the vertices that position k of an inverted view reads are in range.
+fn turned_in_range(source: &[f64], start: usize, offset: usize, k: usize) -> bool
+    requires { ⌜ Inner (now source) start offset k ⌝ }
+    ensures { λ r. ⌜ r ≡ turnedOk double (now (source .entry)) start offset k ⌝ }
+{
+    past_in_range(source, start, offset + 1 - k)
+        && (k == offset || past_in_range(source, start, offset - k))
 }
 
 // Whether the source vertices that position k reads are in range.
@@ -97,8 +112,7 @@ fn reads_in_range(source: &[f64], d: PlineViewData, k: usize) -> bool
     if !d.inverted_direction {
         return past_in_range(source, start, k);
     }
-    past_in_range(source, start, offset + 1 - k)
-        && (k == offset || past_in_range(source, start, offset - k))
+    turned_in_range(source, start, offset, k)
 }
 
 // Whether every number that a lookup of position k reads is in range.

@@ -3,7 +3,9 @@ use crate::ending::Ending;
 use crate::outline::fwd_wrapping_index;
 use crate::outline::serves_views;
 use crate::outline::vertex_at;
+use crate::outline::vertex_past;
 use crate::outline::vertices_in_range;
+use crate::segment::split_segment;
 use crate::view_data::PlineViewData;
 use crate::view_data::ViewAnswer;
 use plane::Vector2;
@@ -15,20 +17,19 @@ use real::BAD_OUTLINE;
 use real::BAD_TOLERANCE;
 use real::NOT_CLOSED;
 use seg::SplitResult;
-use seg::split_at_point;
 ghost use mathlib.Core.Path.{_≡_};
 ghost use mathlib.Core.Bool.{_&&_};
 ghost use Rattle.plane.specs.Grade.{double};
 ghost use Rattle.plane.specs.Range.{pointOk};
 ghost use Rattle.view.specs.Outline.{countOf, numbersOk};
 ghost use Rattle.view.specs.Answers.{viewReply};
-ghost use Rattle.view.specs.Needs.{Index, Splits, Moved};
+ghost use Rattle.view.specs.Needs.{Index, Numbers};
 ghost use Rattle.view.specs.Create.{movedOn, roundEnding, roundFrom, newStartOf};
 
 // The segment that the view starts on: the next one for a point at the end of segment k.
 fn move_on(source: &[f64], p: Vector2, k: usize, eps: f64) -> usize
     requires { ⌜ Index (now source) k ⌝ }
-    ensures { λ r. ⌜ Moved (movedOn double (double .line) (now (source .entry)) p k eps) (countOf (now (source .entry))) r ⌝ }
+    ensures { λ r. ⌜ Numbers (movedOn double (now (source .entry)) p k eps) (countOf (now (source .entry))) r ⌝ }
 {
     let count = source.len() / 3;
     let next = fwd_wrapping_index(k, 1, count);
@@ -43,13 +44,13 @@ fn move_on(source: &[f64], p: Vector2, k: usize, eps: f64) -> usize
 // How a view round the whole outline ends.
 fn round_ending(source: &[f64], p: Vector2, k: usize, eps: f64, split: SplitResult) -> Ending
     requires { ⌜ Index (now source) k ⌝ }
-    ensures { λ r. ⌜ r ≡ roundEnding double (double .line) (now (source .entry)) p k eps split ⌝ }
+    ensures { λ r. ⌜ r ≡ roundEnding double (now (source .entry)) p k eps split ⌝ }
 {
     let count = source.len() / 3;
     let v = vertex_at(source, k);
     let start = split.updated_start;
     if v.pos().fuzzy_eq_eps(p, eps) {
-        let before = vertex_at(source, fwd_wrapping_index(k, count - 1, count));
+        let before = vertex_past(source, k, count - 1);
         return Ending {
             offset: count - 1,
             bulge: before.bulge,
@@ -63,13 +64,10 @@ fn round_ending(source: &[f64], p: Vector2, k: usize, eps: f64, split: SplitResu
 
 // The whole outline, from a point on segment k.
 fn round_from(source: &[f64], p: Vector2, k: usize, eps: f64) -> PlineViewData
-    requires { ⌜ Splits double (now source) k p eps ⌝ }
+    requires { ⌜ Index (now source) k ⌝ }
     ensures { λ r. ⌜ r ≡ roundFrom double (double .line) (now (source .entry)) p k eps ⌝ }
 {
-    let count = source.len() / 3;
-    let v1 = vertex_at(source, k);
-    let v2 = vertex_at(source, fwd_wrapping_index(k, 1, count));
-    let split = split_at_point(v1, v2, p, eps);
+    let split = split_segment(source, k, p, eps);
     let e = round_ending(source, p, k, eps, split);
     let first = split.split_vertex;
     PlineViewData {

@@ -5,8 +5,9 @@ use plane::vertex_in_range;
 ghost use mathlib.Core.Path.{_≡_};
 ghost use Prim.Native.Nat.{_<_};
 ghost use Rattle.plane.specs.Grade.{double};
-ghost use Rattle.view.specs.Outline.{vertexOf, countOf, viewable, numbersOk};
-ghost use Rattle.view.specs.Needs.{Wraps, Wrapped};
+ghost use Rattle.lists.specs.View.{wrapped};
+ghost use Rattle.view.specs.Outline.{vertexOf, countOf, vertexPast, viewable, numbersOk};
+ghost use Rattle.view.specs.Needs.{Wraps, Numbers};
 
 // Vertex k of an outline.
 pub fn vertex_at(source: &[f64], k: usize) -> PlineVertex
@@ -24,9 +25,18 @@ pub fn vertex_at(source: &[f64], k: usize) -> PlineVertex
 // The vertex number that lies `offset` places past `start`, of `count` vertices.
 pub fn fwd_wrapping_index(start: usize, offset: usize, count: usize) -> usize
     requires { ⌜ Wraps start offset count ⌝ }
-    ensures { λ r. ⌜ Wrapped start offset count r ⌝ }
+    ensures { λ r. ⌜ Numbers (wrapped start offset count) count r ⌝ }
 {
     (start + offset) % count
+}
+
+// The vertex that lies `steps` places past vertex k, wrapping.
+pub fn vertex_past(source: &[f64], k: usize, steps: usize) -> PlineVertex
+    requires { ⌜ Wraps k steps (countOf (now source)) ⌝ }
+    ensures { λ r. ⌜ r ≡ vertexPast (now (source .entry)) k steps ⌝ }
+{
+    let count = source.len() / 3;
+    vertex_at(source, fwd_wrapping_index(k, steps, count))
 }
 
 // Whether a view can be over a slice: whole vertices, two or more of them and not too many.

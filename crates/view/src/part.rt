@@ -4,11 +4,11 @@ use crate::outline::fwd_wrapping_index;
 use crate::view_data::PlineViewData;
 ghost use mathlib.Core.Path.{_≡_};
 ghost use Rattle.plane.specs.Grade.{double};
-ghost use Rattle.view.specs.Record.{partOf};
+ghost use Rattle.view.specs.Record.{partOf, trimmedOf};
 ghost use Rattle.view.specs.Needs.{PlacedPart};
 
 // The record of positions a to b of the forward list.
-pub fn part(source: &[f64], d: PlineViewData, a: usize, b: usize) -> PlineViewData
+fn part(source: &[f64], d: PlineViewData, a: usize, b: usize) -> PlineViewData
     requires { ⌜ PlacedPart (now source) d a b ⌝ }
     ensures { λ r. ⌜ r ≡ partOf double (now (source .entry)) d a b ⌝ }
 {
@@ -25,4 +25,16 @@ pub fn part(source: &[f64], d: PlineViewData, a: usize, b: usize) -> PlineViewDa
         end_point: end,
         inverted_direction: d.inverted_direction,
     }
+}
+
+// The record of positions i to j of a view.
+pub fn trimmed(source: &[f64], d: PlineViewData, i: usize, j: usize) -> PlineViewData
+    requires { ⌜ PlacedPart (now source) d i j ⌝ }
+    ensures { λ r. ⌜ r ≡ trimmedOf double (now (source .entry)) d i j ⌝ }
+{
+    let offset = d.end_index_offset;
+    if d.inverted_direction {
+        return part(source, d, offset + 1 - j, offset + 1 - i);
+    }
+    part(source, d, i, j)
 }

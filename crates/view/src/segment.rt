@@ -1,25 +1,32 @@
-// What the view calls use of the segment calls, on vertices and points that are in range.
-use crate::outline::fwd_wrapping_index;
+// A segment of an outline: whether a point lies on it (the closure `point_is_on_segment` of the crate's `validate_for_source`), and its split.
 use crate::outline::vertex_at;
+use crate::outline::vertex_past;
 use plane::PlineVertex;
 use plane::Vector2;
+use seg::SplitResult;
 use seg::closest_point;
+use seg::split_at_point;
 ghost use mathlib.Core.Path.{_≡_};
 ghost use Rattle.plane.specs.Grade.{double};
-ghost use Rattle.view.specs.Segment.{SegIn, nearEnd, nearClosest, onSegmentOf, onOutline};
+ghost use Rattle.view.specs.Needs.{Index};
+ghost use Rattle.view.specs.Segment.{nearEnd, nearClosest, onSegmentOf, onOutline, splitSegment};
+
+// An end that is nearer to a vertex than this sits on it.
+pub const ON_VERTEX: f64 = 1e-5;
+
+// A point that is nearer to a segment than this is on it.
+const ON_SEGMENT: f64 = 1e-3;
 
 fn near_an_end(v1: PlineVertex, v2: PlineVertex, p: Vector2) -> bool
     ensures { λ r. ⌜ r ≡ nearEnd double v1 v2 p ⌝ }
 {
-    let start = Vector2 { x: v1.x, y: v1.y };
-    let end = Vector2 { x: v2.x, y: v2.y };
-    p.fuzzy_eq_eps(start, 1e-3) || p.fuzzy_eq_eps(end, 1e-3)
+    p.fuzzy_eq_eps(v1.pos(), ON_SEGMENT) || p.fuzzy_eq_eps(v2.pos(), ON_SEGMENT)
 }
 
 fn near_closest_point(v1: PlineVertex, v2: PlineVertex, p: Vector2) -> bool
     ensures { λ r. ⌜ r ≡ nearClosest double (double .line) v1 v2 p ⌝ }
 {
-    closest_point(v1, v2, p, 1e-5).fuzzy_eq_eps(p, 1e-3)
+    closest_point(v1, v2, p, ON_VERTEX).fuzzy_eq_eps(p, ON_SEGMENT)
 }
 
 fn is_on_segment(v1: PlineVertex, v2: PlineVertex, p: Vector2) -> bool
@@ -30,11 +37,18 @@ fn is_on_segment(v1: PlineVertex, v2: PlineVertex, p: Vector2) -> bool
 
 // Whether a point lies on segment k of an outline.
 pub fn point_is_on_segment(source: &[f64], k: usize, p: Vector2) -> bool
-    requires { ⌜ SegIn double (now source) k p ⌝ }
+    requires { ⌜ Index (now source) k ⌝ }
     ensures { λ r. ⌜ r ≡ onOutline double (double .line) (now (source .entry)) k p ⌝ }
 {
-    let count = source.len() / 3;
     let v1 = vertex_at(source, k);
-    let v2 = vertex_at(source, fwd_wrapping_index(k, 1, count));
-    is_on_segment(v1, v2, p)
+    is_on_segment(v1, vertex_past(source, k, 1), p)
+}
+
+// Segment k of an outline, split at a point.
+pub fn split_segment(source: &[f64], k: usize, p: Vector2, eps: f64) -> SplitResult
+    requires { ⌜ Index (now source) k ⌝ }
+    ensures { λ r. ⌜ r ≡ splitSegment double (double .line) (now (source .entry)) k p eps ⌝ }
+{
+    let v1 = vertex_at(source, k);
+    split_at_point(v1, vertex_past(source, k, 1), p, eps)
 }

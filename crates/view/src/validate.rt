@@ -2,21 +2,24 @@
 use crate::check::numbers_in_range;
 use crate::outline::fwd_wrapping_index;
 use crate::outline::vertex_at;
+use crate::segment::ON_VERTEX;
 use crate::segment::point_is_on_segment;
 use crate::validation::MarkAnswer;
 use crate::validation::ValidationAnswer;
 use crate::validation::ViewDataValidation;
 use crate::view_data::PlineViewData;
 use plane::PlineVertex;
-use plane::Vector2;
 use plane::fuzzy_eq_eps;
 use plane::outline_is_whole;
 use real::BAD_INDEX;
 use real::BAD_NUMBER;
 use real::BAD_OUTLINE;
 ghost use mathlib.Core.Path.{_≡_};
+ghost use Prim.Native.Nat.{_≤_};
 ghost use Rattle.plane.specs.Grade.{double};
-ghost use Rattle.view.specs.Needs.{Judged, Numbered};
+ghost use Rattle.plane.specs.Range.{mostVertices};
+ghost use Rattle.view.specs.Outline.{countOf};
+ghost use Rattle.view.specs.Needs.{Placed};
 ghost use Rattle.view.specs.Validation.{verdictOf, validationReply, bulgesMatch, endVerdict, placedVerdict, countedVerdict, validateOf, markReply, markAnswer};
 
 // Whether the bulges of a view on one segment match; a longer view has nothing to match.
@@ -26,7 +29,7 @@ fn bulges_match(d: PlineViewData) -> bool
     let offset = d.end_index_offset;
     let v = d.updated_start;
     if offset == 0 {
-        return fuzzy_eq_eps(d.updated_end_bulge, v.bulge, 1e-5);
+        return fuzzy_eq_eps(d.updated_end_bulge, v.bulge, ON_VERTEX);
     }
     true
 }
@@ -37,11 +40,10 @@ fn judge_end(d: PlineViewData, on: bool, v: PlineVertex) -> ViewDataValidation
 {
     let p = d.end_point;
     let first = d.updated_start;
-    let at = Vector2 { x: v.x, y: v.y };
     if !on {
         return ViewDataValidation::EndPointNotOnSegment { end_point: p };
     }
-    if p.fuzzy_eq_eps(at, 1e-5) {
+    if p.fuzzy_eq_eps(v.pos(), ON_VERTEX) {
         return ViewDataValidation::EndPointOnFinalOffsetVertex {
             end_point: p,
             final_offset_vertex: v,
@@ -58,16 +60,13 @@ fn judge_end(d: PlineViewData, on: bool, v: PlineVertex) -> ViewDataValidation
 
 // Verdicts 3 to 7.
 fn judge(source: &[f64], d: PlineViewData) -> ViewDataValidation
-    requires { ⌜ Judged double (now source) d ⌝ }
+    requires { ⌜ Placed (now source) d ⌝ }
     ensures { λ r. ⌜ verdictOf r ≡ placedVerdict double (double .line) (now (source .entry)) d ⌝ }
 {
     let count = source.len() / 3;
     let start = d.start_index;
     let first = d.updated_start;
-    let p = Vector2 {
-        x: first.x,
-        y: first.y,
-    };
+    let p = first.pos();
     if !point_is_on_segment(source, start, p) {
         return ViewDataValidation::UpdatedStartNotOnSegment { start_point: p };
     }
@@ -79,7 +78,7 @@ fn judge(source: &[f64], d: PlineViewData) -> ViewDataValidation
 
 // Verdicts 1 and 2, then refusal 4, then the others.
 fn judge_counts(source: &[f64], d: PlineViewData) -> ValidationAnswer
-    requires { ⌜ Numbered double (now source) d ⌝ }
+    requires { ⌜ countOf (now source) ≤ mostVertices ⌝ }
     ensures { λ r. ⌜ validationReply r ≡ countedVerdict double (double .line) (now (source .entry)) d ⌝ }
 {
     let count = source.len() / 3;

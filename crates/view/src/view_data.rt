@@ -1,13 +1,14 @@
 // The crate's `PlineViewData`, with listing, reversal and trim.
 use crate::check::Check;
+use crate::check::both_less;
+use crate::check::check_even;
 use crate::check::check_place;
 use crate::check::check_view;
-use crate::check::has_even_bulges;
 use crate::list::write_list;
 use crate::lookup::lookup_in_range;
 use crate::lookup::vertex_of;
 use crate::outline::serves_views;
-use crate::part::part;
+use crate::part::trimmed;
 use plane::PlineVertex;
 use plane::Vector2;
 use plane::VertexAnswer;
@@ -16,7 +17,6 @@ use real::BAD_NUMBER;
 use real::BAD_OUTLINE;
 use real::BAD_TRIM;
 use real::NO_ROOM;
-use real::UNEVEN_BULGES;
 ghost use mathlib.Core.Path.{_≡_};
 ghost use lib.ListN.{length};
 ghost use Rattle.plane.specs.Grade.{double};
@@ -101,12 +101,9 @@ impl PlineViewData {
     pub fn reverse(self, source: &[f64]) -> ViewAnswer
         ensures { λ r. ⌜ viewReply r ≡ reverseOf double (now (source .entry)) self ⌝ }
     {
-        let checked = check_view(source, self);
+        let checked = check_even(source, self);
         if let Check::Refused(n) = checked {
             return ViewAnswer::Refused(n);
-        }
-        if !has_even_bulges(self) {
-            return ViewAnswer::Refused(UNEVEN_BULGES);
         }
         let mut r = self;
         r.inverted_direction = !self.inverted_direction;
@@ -117,23 +114,14 @@ impl PlineViewData {
     pub fn trim(self, source: &[f64], i: usize, j: usize) -> ViewAnswer
         ensures { λ r. ⌜ viewReply r ≡ trimOf double (now (source .entry)) self i j ⌝ }
     {
-        let checked = check_view(source, self);
+        let checked = check_even(source, self);
         if let Check::Refused(n) = checked {
             return ViewAnswer::Refused(n);
         }
-        if !has_even_bulges(self) {
-            return ViewAnswer::Refused(UNEVEN_BULGES);
-        }
         let offset = self.end_index_offset;
-        if j <= i {
+        if !both_less(i, j, j, offset + 2) {
             return ViewAnswer::Refused(BAD_TRIM);
         }
-        if j >= offset + 2 {
-            return ViewAnswer::Refused(BAD_TRIM);
-        }
-        if self.inverted_direction {
-            return ViewAnswer::Given(part(source, self, offset + 1 - j, offset + 1 - i));
-        }
-        ViewAnswer::Given(part(source, self, i, j))
+        ViewAnswer::Given(trimmed(source, self, i, j))
     }
 }

@@ -1,4 +1,4 @@
--- The split of segment `at`, whose vertices are in range.
+-- The split's start, by the promise.
 use borrow.Author.Needs.{needs}
 use Rattle.view.specs.Create.{endOnSegment}
 use Rattle.view.proofs.create.end_on_segment.Statement.{statement}
@@ -6,10 +6,7 @@ use Rattle.view.proofs.create.end_on_segment.Tie as tie
 
 returns : tie.Need-returns
 unfolding endOnSegment
-returns c =
-    let call = c .before in
-    let next = call .before in
-    simp (call .split-at-point .ensures, next .before .before .vertex-at .ensures, next .vertex-at2 .ensures, next .before .fwd-wrapping-index .ensures .is)
+returns c = simp (c .before .split-segment .ensures)
 
 pub end-on-segment-spec : {M : Type 1} → statement M
-end-on-segment-spec = tie.close (tie.spec (λ c κs. search needs) (λ c κs. search needs) (λ c κs. search needs) (λ c κs. tt) returns)
+end-on-segment-spec = tie.close (tie.spec (λ c κs. search needs) returns)

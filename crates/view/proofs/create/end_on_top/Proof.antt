@@ -11,7 +11,7 @@ returns c = simp (eq-eqb _ _ (c .if1 .taken))
 
 returns-2 : tie.Need-returns-2
 unfolding endOnTop
-returns-2 c = simp (ne-eqb _ _ (c .before .before .if1 .left), c .vertex-at .ensures, c .before .fwd-wrapping-index .ensures .is)
+returns-2 c = simp (ne-eqb _ _ (c .before .if1 .left), c .vertex-past .ensures)
 
 pub end-on-top-spec : {M : Type 1} → statement M
-end-on-top-spec = tie.close (tie.spec (λ c. search needs) returns (λ c. search needs) (λ c κs. search needs) (λ c κs. search needs) returns-2)
+end-on-top-spec = tie.close (tie.spec (λ c. search needs) returns (λ c. search needs) (λ c κs. search needs) returns-2)

@@ -1,13 +1,6 @@
 -- The direction's own lookup.
 use borrow.Author.Needs.{needs}
-use mathlib.Core.Path.{sym, ap, _∙_}
-use mathlib.Core.Bool.{Bool, cond}
-use denote.Ref.{now}
-use lib.Ieee.{neg}
-use Rattle.plane.specs.Grade.{double}
-use Rattle.lists.specs.View.{vertexAt, forward, backward}
-use Rattle.view.specs.Outline.{countOf, srcOf, ofVert}
-use Rattle.view.specs.Record.{viewOf}
+use Rattle.lists.specs.View.{vertexAt}
 use Rattle.view.proofs.lookup.vertex_of.Statement.{statement}
 use Rattle.view.proofs.lookup.vertex_of.Tie as tie
 

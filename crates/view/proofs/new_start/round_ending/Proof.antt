@@ -7,9 +7,10 @@ use Rattle.view.proofs.new_start.round_ending.Tie as tie
 returns : tie.Need-returns
 unfolding roundEnding
 returns c =
-    let test = c .before .before .before in
-    let near = simp (test .before .pos .ensures, test .before .before .before .vertex-at .ensures, test .fuzzy-eq-eps .ensures) at (c .before .before .if1 .taken) in
-    simp (near, c .vertex-at2 .ensures, c .before .fwd-wrapping-index .ensures .is)
+    let at-then = c .before in
+    let test = at-then .before in
+    let near = simp (test .before .pos .ensures, test .before .before .before .vertex-at .ensures, test .fuzzy-eq-eps .ensures) at (at-then .if1 .taken) in
+    simp (near, c .vertex-past .ensures)
 
 returns-2 : tie.Need-returns-2
 unfolding roundEnding
@@ -20,4 +21,4 @@ returns-2 c =
 
 pub round-ending-spec : {M : Type 1} → statement M
 round-ending-spec =
-    tie.close (tie.spec (λ c κs. search needs) (λ c κs. tt) (λ c κs. tt) (λ c. search needs) (λ c κs. search needs) (λ c κs. search needs) (λ c. search needs) returns returns-2)
+    tie.close (tie.spec (λ c κs. search needs) (λ c κs. tt) (λ c κs. tt) (λ c. search needs) (λ c κs. search needs) (λ c. search needs) returns returns-2)

@@ -6,11 +6,7 @@ use Rattle.view.proofs.new_start.round_from.Tie as tie
 
 returns : tie.Need-returns
 unfolding roundFrom
-returns c =
-    let ending = c .before in
-    let call = ending .before in
-    let next = call .before in
-    simp (ending .round-ending .ensures, call .split-at-point .ensures, next .before .before .vertex-at .ensures, next .vertex-at2 .ensures, next .before .fwd-wrapping-index .ensures .is)
+returns c = simp (c .before .round-ending .ensures, c .before .before .split-segment .ensures)
 
 pub round-from-spec : {M : Type 1} → statement M
-round-from-spec = tie.close (tie.spec (λ c κs. search needs) (λ c κs. search needs) (λ c κs. search needs) (λ c κs. tt) (λ c κs. search needs) returns)
+round-from-spec = tie.close (tie.spec (λ c κs. search needs) (λ c κs. search needs) returns)

@@ -1,8 +1,5 @@
 -- The record is put together from the calls' answers, field by field.
-use mathlib.Core.Path.{ap, _∙_}
-use Prim.Native.Nat.{_-_}
 use borrow.Author.Needs.{needs}
-use Rattle.plane.specs.Vertex.{posOf}
 use Rattle.lists.specs.View.{part}
 use Rattle.view.proofs.part.part.Statement.{statement}
 use Rattle.view.proofs.part.part.Tie as tie

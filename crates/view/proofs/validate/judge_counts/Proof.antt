@@ -2,12 +2,7 @@
 use mathlib.Core.Path.{ap}
 use borrow.Author.Tests.{lt-ltb, le-ltb}
 use Rattle.real.specs.Reply.{given}
-use denote.Ref.{now}
-use Rattle.plane.specs.Grade.{double}
-use Rattle.view.specs.Outline.{numbersOk}
 use Rattle.view.specs.Validation.{countedVerdict}
-use Rattle.view.proofs.Segments.{few-of-whole}
-use Rattle.view.proofs.All.{and-both}
 use Rattle.view.proofs.validate.judge_counts.Statement.{statement}
 use Rattle.view.proofs.validate.judge_counts.Tie as tie
 
@@ -24,14 +19,7 @@ unfolding countedVerdict
 returns-3 c = simp (le-ltb _ _ (c .before .before .if1 .left), le-ltb _ _ (c .before .if2 .left), le-ltb _ _ (c .if3 .taken))
 
 judge-requires : tie.Need-judge-requires
-judge-requires c κs =
-    let pre = c .before .before .before .before .pre in
-    let n = and-both (numbersOk double (now (c .before .before .before .before .args .source))) _ (pre .numbers) in
-    record {
-      placed = record { few = few-of-whole (now (c .before .before .before .before .args .source)) (pre .whole); two = c .before .before .if1 .left; start = c .if3 .left; offset = c .before .if2 .left };
-      outline = n .0;
-      numbers = n .1;
-    }
+judge-requires c κs = record { few = c .before .before .before .before .pre; two = c .before .before .if1 .left; start = c .if3 .left; offset = c .before .if2 .left }
 
 returns-4 : tie.Need-returns-4
 unfolding countedVerdict

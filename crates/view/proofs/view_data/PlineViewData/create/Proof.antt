@@ -1,75 +1,64 @@
 -- The guards are the definition's tests, in its order; past them the view ends as `find_end` finds.
-use mathlib.Core.Path.{refl}
+use mathlib.Core.Path.{_≡_, refl}
+use mathlib.Core.Bool.{_&&_}
 use native.Mathlib.Omega.{arith}
-use borrow.Author.Tests.{lt-ltb, le-ltb, ltb-true}
-use Rattle.real.proofs.Pick.{picks, good, bad, passed}
-use denote.Ref.{now}
 use lib.Dec.{ltb}
+use borrow.Author.Tests.{lt-ltb, le-ltb, ltb-true}
+use denote.Ref.{now}
+use Rattle.real.specs.Refusal.{badNumber, badTolerance, badOutline, badOffset}
+use Rattle.real.specs.Reply.{Reply, check}
+use Rattle.real.proofs.Pick.{picks, good, bad, passed}
 use Rattle.plane.specs.Grade.{double}
-use Rattle.plane.specs.Range.{pointOk}
-use Rattle.view.specs.Outline.{countOf, numbersOk}
+use Rattle.plane.specs.Range.{tolOk, pointOk, vertexOk}
+use Rattle.view.specs.Outline.{countOf, viewable, numbersOk}
 use Rattle.view.specs.Create.{createOf}
+use Rattle.view.specs.declared.view_data.PlineViewData.{PlineViewData}
 use Rattle.view.proofs.All.{and-both}
 use Rattle.view.proofs.Checks.{viewable-in}
 use Rattle.view.proofs.view_data.PlineViewData.create.Statement.{statement}
 use Rattle.view.proofs.view_data.PlineViewData.create.Tie as tie
 
+-- past the third guard, and past the fourth, an answer is the definition's if it is what the definition has there
+past3 : (c : tie.Else3) {r x : Reply PlineViewData} → r ≡ x → let a = c .before .before .before .before .before .before .before .args in let s = now (a .source) in
+    r ≡ check (viewable s) badOutline (check (numbersOk double s && (pointOk double (a .p) && vertexOk double (a .first))) badNumber (check (tolOk double (a .eps)) badTolerance x))
+past3 c e =
+    let at2 = c .before .before in
+    let at1 = at2 .before .before in
+    good _ (at1 .before .serves-views .ensures) (at1 .if1 .left)
+    (good _ (at2 .before .all-in-range .ensures) (at2 .if2 .left)
+    (good _ (c .before .tol-in-range .ensures) (c .if3 .left) e))
+
+past4 : (c : tie.Else4) {r x : Reply PlineViewData} → r ≡ x → let a = c .before .before .before .before .before .before .before .before .args in let s = now (a .source) in
+    r ≡ check (viewable s) badOutline (check (numbersOk double s && (pointOk double (a .p) && vertexOk double (a .first))) badNumber (check (tolOk double (a .eps)) badTolerance (check (ltb 0 (a .traverse)) badOffset x)))
+past4 c e = past3 (c .before) (simp (lt-ltb 0 (c .before .before .before .before .before .before .before .before .args .traverse) (omega (arith, c .if4 .left))) e)
+
 returns-4 : tie.Need-returns-4
 unfolding createOf
-returns-4 c =
-    let past3 = c .before in
-    let past2 = past3 .before .before in
-    let past1 = past2 .before .before in
-    good _ (past1 .before .serves-views .ensures) (past1 .if1 .left)
-    (good _ (past2 .before .all-in-range .ensures) (past2 .if2 .left)
-    (good _ (past3 .before .tol-in-range .ensures) (past3 .if3 .left)
-    (simp (le-ltb 0 (past1 .before .before .before .args .traverse) (omega (arith, c .if4 .taken))))))
+returns-4 c = past3 (c .before) (simp (le-ltb 0 (c .before .before .before .before .before .before .before .before .args .traverse) (omega (arith, c .if4 .taken))))
 
 returns-5 : tie.Need-returns-5
 unfolding createOf
-returns-5 c =
-    let past4 = c .before .before in
-    let past3 = past4 .before in
-    let past2 = past3 .before .before in
-    let past1 = past2 .before .before in
-    good _ (past1 .before .serves-views .ensures) (past1 .if1 .left)
-    (good _ (past2 .before .all-in-range .ensures) (past2 .if2 .left)
-    (good _ (past3 .before .tol-in-range .ensures) (past3 .if3 .left)
-    (simp (lt-ltb 0 (past1 .before .before .before .args .traverse) (omega (arith, past4 .if4 .left))) (bad _ (c .before .both-below .ensures) (c .if5 .taken) refl))))
+returns-5 c = past4 (c .before .before) (bad _ (c .before .both-less .ensures) (c .if5 .taken) refl)
 
 ends : tie.Need-find-end-requires
 ends c κs =
-    let past4 = c .before .before in
-    let past3 = past4 .before in
-    let past2 = past3 .before .before in
-    let past1 = past2 .before .before in
-    let a = past1 .before .before .before .args in
-    let n = and-both (numbersOk double (now (a .source))) _ (passed (past2 .before .all-in-range .ensures) (past2 .if2 .left)) in
+    let at4 = c .before .before in
+    let at1 = at4 .before .before .before .before .before in
+    let a = at1 .before .before .before .args in
     record {
-      splits = record {
-        few = viewable-in _ (passed (past1 .before .serves-views .ensures) (past1 .if1 .left)) .1;
-        index = ltb-true _ _ (and-both (ltb (a .start) (countOf (now (a .source)))) _ (passed (c .before .both-below .ensures) (c .if5 .left)) .1);
-        numbers = n .0;
-        point = and-both (pointOk double (a .p)) _ (n .1) .0;
-        tolerance = passed (past3 .before .tol-in-range .ensures) (past3 .if3 .left);
-      };
-      some = omega (arith, past4 .if4 .left);
+      at-index =
+          record {
+            few = viewable-in _ (passed (at1 .before .serves-views .ensures) (at1 .if1 .left)) .1;
+            index = ltb-true _ _ (and-both (ltb (a .start) (countOf (now (a .source)))) _ (passed (c .before .both-less .ensures) (c .if5 .left)) .1);
+          };
+      some = omega (arith, at4 .if4 .left);
     }
 
 returns-6 : tie.Need-returns-6
 unfolding createOf
 returns-6 c =
-    let past5 = c .before .before in
-    let past4 = past5 .before .before in
-    let past3 = past4 .before in
-    let past2 = past3 .before .before in
-    let past1 = past2 .before .before in
-    good _ (past1 .before .serves-views .ensures) (past1 .if1 .left)
-    (good _ (past2 .before .all-in-range .ensures) (past2 .if2 .left)
-    (good _ (past3 .before .tol-in-range .ensures) (past3 .if3 .left)
-    (simp (lt-ltb 0 (past1 .before .before .before .args .traverse) (omega (arith, past4 .if4 .left)))
-    (good _ (past5 .before .both-below .ensures) (past5 .if5 .left)
-    (rw (c .before .find-end .ensures) at (c .ended-at .ensures))))))
+    let at5 = c .before .before in
+    past4 (at5 .before .before) (good _ (at5 .before .both-less .ensures) (at5 .if5 .left) (rw (c .before .find-end .ensures) at (c .ended-at .ensures)))
 
 pub create-spec : {M : Type 1} → statement M
 unfolding createOf

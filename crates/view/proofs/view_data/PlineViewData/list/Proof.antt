@@ -12,43 +12,54 @@ use Rattle.real.specs.Refusal.{noRoom}
 use Rattle.real.specs.Reply.{Reply, refused, given}
 use Rattle.plane.specs.Grade.{double}
 use Rattle.view.specs.Record.{vertices}
-use Rattle.view.specs.Check.{checkReply}
 use Rattle.view.specs.Answers.{listOf, listBuffer, bufferAfter, written}
 use Rattle.view.specs.declared.view_data.PlineViewData.{PlineViewData}
-use Rattle.view.proofs.Checks.{Checked, checked, checked-rest, checked-refused}
+use Rattle.view.proofs.Checks.{Checked, told-refused, told-passed, checked, checked-rest, checked-refused}
 use Rattle.view.proofs.view_data.PlineViewData.list.Statement.{statement}
 use Rattle.view.proofs.view_data.PlineViewData.list.Tie as tie
 
--- what the buffer holds after an answer r, and that it is the definition's where r is
-abbrev after : List Float → PlineViewData → List Float → Reply ℕ → List Float
-after s d out r = bufferAfter r out (written double s d out)
+-- what the call was asked
+abbrev source : tie.After-check-view → List Float
+source c = now (c .before .before .before .args .source)
 
-clear : (c : tie.After-enum-told) → let a = c .before .before .before .before .before .args in Checked double (now (a .source)) (a .self)
-clear c = checked double _ _ _ (ap checkReply (sym (c .enum-told .given .1)) ∙ c .before .before .check-view .ensures)
+abbrev self : tie.After-check-view → PlineViewData
+self c = c .before .before .before .args .self
+
+abbrev out : tie.After-check-view → List Float
+out c = now (c .before .before .before .args .out)
+
+-- an answer, and the buffer after it
+abbrev answered : tie.After-check-view → Reply ℕ → Type 0
+answered c r = r ≡ listOf double (source c) (self c) (length (out c))
+
+abbrev after : tie.After-check-view → Reply ℕ → List Float
+after c r = bufferAfter r (out c) (written double (source c) (self c) (out c))
+
+clear : (c : tie.After-enum-told) → let at-check = c .before .before in Checked double (source at-check) (self at-check)
+clear c = checked double _ _ _ (told-passed (c .enum-told .given .1) (c .before .before .check-view .ensures))
 
 returns : tie.Need-returns
 unfolding listOf listBuffer bufferAfter
 returns c =
-    let a = c .before .before .before .before .before .before .args in
-    let e = checked-refused double (now (a .source)) (a .self) _ _ (ap checkReply (sym (c .before .checked .given .1)) ∙ c .before .before .before .check-view .ensures) in
-    (e, ap (after (now (a .source)) (a .self) (now (a .out))) e)
+    let at-check = c .before .before .before in
+    let e = checked-refused double (source at-check) (self at-check) _ _ (told-refused (c .before .checked .given .1) (at-check .check-view .ensures)) in
+    (e, ap (after at-check) e)
 
 returns-2 : tie.Need-returns-2
 unfolding listOf listBuffer bufferAfter
 returns-2 c =
-    let a = c .before .before .before .before .before .before .args in
-    let e : refused noRoom ≡ listOf double (now (a .source)) (a .self) (length (now (a .out))) =
-    sym (checked-rest double _ _ _ (clear (c .before)) ∙ simp (lt-leb _ _ (c .if1 .taken))) in
-    (e, ap (after (now (a .source)) (a .self) (now (a .out))) e)
+    let at-check = c .before .before .before in
+    let e : answered at-check (refused noRoom) = sym (checked-rest double _ _ _ (clear (c .before)) ∙ simp (lt-leb _ _ (c .if1 .taken))) in
+    (e, ap (after at-check) e)
 
 returns-3 : tie.Need-returns-3
 unfolding listOf listBuffer bufferAfter
 returns-3 c =
-    let b = c .before .before .before .before in
-    let a = b .before .before .before .before .before .before .args in
-    let e : given (vertices (a .self)) ≡ listOf double (now (a .source)) (a .self) (length (now (a .out))) =
-    sym (checked-rest double _ _ _ (clear (b .before)) ∙ simp (le-leb _ _ (b .if1 .left))) in
-    (e, c .before .before .write-list .ensures ∙ ap (after (now (a .source)) (a .self) (now (a .out))) e)
+    let at-write = c .before .before in
+    let at-else = at-write .before .before in
+    let at-check = at-else .before .before .before in
+    let e : answered at-check (given (vertices (self at-check))) = sym (checked-rest double _ _ _ (clear (at-else .before)) ∙ simp (le-leb _ _ (at-else .if1 .left))) in
+    (e, at-write .write-list .ensures ∙ ap (after at-check) e)
 
 pub list-spec : {M : Type 1} → statement M
 list-spec =

@@ -1,21 +1,20 @@
 -- The shared check's refusal, or past it the count.
-use mathlib.Core.Path.{sym, ap, _∙_}
+use mathlib.Core.Path.{sym}
 use native.Mathlib.Omega.{arith}
 use borrow.Author.Needs.{needs}
 use denote.Ref.{now}
 use Rattle.plane.specs.Grade.{double}
-use Rattle.view.specs.Check.{checkReply}
 use Rattle.view.specs.Answers.{vertexCountOf}
-use Rattle.view.proofs.Checks.{Checked, checked, checked-rest, checked-refused}
+use Rattle.view.proofs.Checks.{Checked, told-refused, told-passed, checked, checked-rest, checked-refused}
 use Rattle.view.proofs.view_data.PlineViewData.vertex_count.Statement.{statement}
 use Rattle.view.proofs.view_data.PlineViewData.vertex_count.Tie as tie
 
 clear : (c : tie.After-enum-told) → let a = c .before .before .before .before .args in Checked double (now (a .source)) (a .self)
-clear c = checked double _ _ _ (ap checkReply (sym (c .enum-told .given .1)) ∙ c .before .before .check-view .ensures)
+clear c = checked double _ _ _ (told-passed (c .enum-told .given .1) (c .before .before .check-view .ensures))
 
 returns : tie.Need-returns
 unfolding vertexCountOf
-returns c = checked-refused double _ _ _ _ (ap checkReply (sym (c .before .checked .given .1)) ∙ c .before .before .before .check-view .ensures)
+returns c = checked-refused double _ _ _ _ (told-refused (c .before .checked .given .1) (c .before .before .before .check-view .ensures))
 
 returns-2 : tie.Need-returns-2
 unfolding vertexCountOf
