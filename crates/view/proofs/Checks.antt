@@ -1,15 +1,15 @@
 -- What it says that an outline and a record pass the checks, and that a check's answer is that of every chain that begins with it.
-use mathlib.Core.Path.{_≡_, refl, sym, ap, _∙_}
-use mathlib.Core.Bool.{Bool, true, false, _&&_}
+use mathlib.Core.Path.{_≡_, sym, ap, _∙_}
+use mathlib.Core.Bool.{true, _&&_}
 use mathlib.Core.List.{List}
 use Prim.Native.Nat.{ℕ, _%_, _<_, _≤_}
-use native.Mathlib.Omega.{arith}
 use lib.ListN.{length}
 use lib.Dec.{ltb, leb, eqb}
 use lib.Ieee.{Float}
 use borrow.Author.Tests.{ltb-true, leb-true, lt-ltb, le-leb}
 use Rattle.real.specs.Refusal.{badNumber, badOutline, badIndex, badOffset, unevenBulges}
 use Rattle.real.specs.Reply.{Reply, refused, given, check}
+use Rattle.real.proofs.Replies.{never-given, check-passed, check-refused}
 use Rattle.plane.specs.Grade.{Grade}
 use Rattle.plane.specs.Range.{mostVertices, wholeOutline, vertexOk}
 use Rattle.view.specs.Outline.{vertexOf, countOf, viewable, numbersOk}
@@ -21,17 +21,8 @@ use Rattle.view.specs.declared.check.Check.the-variants as check-case
 use Rattle.view.specs.declared.view_data.PlineViewData.{PlineViewData}
 use Rattle.view.proofs.All.{and-both, all-each}
 
--- one link of a chain: it passed, so its test holds; it refused, and so does the link before any other rest
-pub check-passed : {A : Type 0} {b : Bool} {a : A} (n : ℕ) (rest : Reply A) → given a ≡ check b n rest → (b ≡ true) × (given a ≡ rest)
-check-passed {b = true} n rest e = (refl, e)
-check-passed {b = false} n rest e = let z : _≡_ {A = ℕ} 0 1 = cc in absurd (omega arith)
-
-check-refused : {A : Type 0} (b : Bool) (m n : ℕ) (rest : Reply (Unit {0})) (rest′ : Reply A) → (refused m ≡ rest → refused m ≡ rest′) → refused m ≡ check b n rest → refused m ≡ check b n rest′
-check-refused true m n rest rest′ f e = f e
-check-refused false m n rest rest′ f e = let q : m ≡ n = cc in ap refused q
-
 no-refusal : {A : Type 0} (m : ℕ) (rest : Reply A) → refused m ≡ pass → refused m ≡ rest
-no-refusal m rest e = let z : _≡_ {A = ℕ} 0 1 = cc in absurd (omega arith)
+no-refusal m rest e = never-given e
 
 -- the two cases of the code's answer to a check
 pub told-refused : {m : ℕ} {r : Check} {x : Reply (Unit {0})} → r ≡ check-case.Refused m → checkReply r ≡ x → refused m ≡ x

@@ -1,8 +1,8 @@
--- Laws of plain lists and of views over any numbers, of the checks and the segments, and the theorems: Lists, Demand3, Replies, Shape, Made, Cut, Table.
+-- Laws of tests over an outline and of the checks, and the theorems: Demand3, Same, Shape, Table, Cut, Made.
 pub mod All
 pub mod Checks
 pub mod Demand3
-pub mod Replies
+pub mod Same
 pub mod Shape
 pub mod Table
 pub mod Cut

@@ -11,6 +11,7 @@ use borrow.Author.Tests.{ltb-true, leb-true, eq-eqb}
 use Rattle.real.specs.Refusal.{badNumber, badTolerance, badOutline, badIndex, badOffset, notClosed}
 use Rattle.real.specs.Reply.{given}
 use Rattle.real.specs.Root.{absOf}
+use Rattle.real.proofs.Replies.{same-given, check-passed}
 use Rattle.plane.specs.Grade.{Grade, double}
 use Rattle.plane.specs.Vec.{vnearOf}
 use Rattle.plane.specs.Vertex.{vertexAt, posOf}
@@ -31,7 +32,7 @@ use Rattle.view.specs.Create.{nextOf, prevOf, ending, forwardData, endOn
 use Rattle.view.specs.declared.view_data.PlineViewData.{PlineViewData}
 use Rattle.view.specs.declared.ending.Ending.{Ending}
 use Rattle.view.proofs.All.{and-both}
-use Rattle.view.proofs.Checks.{check-passed, viewable-in, vertex-in}
+use Rattle.view.proofs.Checks.{viewable-in, vertex-in}
 use Rattle.view.proofs.Demand3.{Fine, fine-demand3}
 open Grade double using (zero, four)
 
@@ -39,9 +40,6 @@ open Grade double using (zero, four)
 bulge-in : (g : Grade) (v : PlineVertex) → vertexOk g v ≡ true → bulgeOk g (v .bulge) ≡ true
 unfolding vertexOk
 bulge-in g v e = and-both (coordOk g (v .y)) _ (and-both (coordOk g (v .x)) _ e .1) .1
-
-same-given : {A : Type 0} {x y : A} → given x ≡ given y → y ≡ x
-same-given e = cc
 
 -- either way of a test
 either : {A : Type 0} (P : A → Type 0) (t : Bool) {x y : A} → (t ≡ true → P x) → (t ≡ false → P y) → P (cond t x y)
@@ -85,7 +83,7 @@ module _ (g : Grade) (s : List Float) (p : Vector2) (eps : Float) (a : Asked g s
   unfolding endedAt
   ended-fine start first e d h v x q =
       let l = check-passed badOffset (given (forwardData start first p e)) q in
-      let same : forwardData start first p e ≡ d = same-given (l .1) in
+      let same : forwardData start first p e ≡ d = same-given (sym (l .1)) in
       subst (Fine g s) same (made start first e h v (leb-true _ _ (l .0)) x)
 
   moved-in : (k : ℕ) → k < countOf s → movedOn g s p k eps < countOf s
@@ -142,7 +140,7 @@ module _ (g : Grade) (sound : Sound g) (limit : Float) (s : List Float) (p : Vec
       let k = movedOn g s p start eps in
       let i = check-passed badIndex (given (roundFrom g limit s p k eps)) (c .1) in
       let a : Asked g s p eps = record { outline = o .0; numbers = n₁ .0; point = n₁ .1; tolerance = t .0 } in
-      let same : roundFrom g limit s p k eps ≡ d = same-given (i .1) in
+      let same : roundFrom g limit s p k eps ≡ d = same-given (sym (i .1)) in
       subst (Fine g s) same (round-fine g s p eps a sound limit k (moved-in g s p eps a start (ltb-true _ _ (i .0))))
 
 pub made-demand3 : (g : Grade) → Sound g → (limit : Float) → MadeDemand3 g limit

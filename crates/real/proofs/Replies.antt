@@ -1,0 +1,26 @@
+-- What the answer of a chain of checks says: each test before it holds, and a refusal does not depend on what comes after it.
+use mathlib.Core.Path.{_≡_, refl, sym, ap}
+use mathlib.Core.Bool.{Bool, true, false}
+use Prim.Native.Nat.{ℕ}
+use native.Mathlib.Omega.{arith}
+use Rattle.real.specs.Reply.{Reply, refused, given, check}
+
+pub same-given : {A : Type 0} {x y : A} → given x ≡ given y → x ≡ y
+same-given e = cc
+
+pub never-given : {A X : Type 0} {n : ℕ} {y : A} → _≡_ {A = Reply A} (refused n) (given y) → X
+never-given e = let z : _≡_ {A = ℕ} 0 1 = cc in absurd (omega arith)
+
+pub check-passed : {A : Type 0} {b : Bool} {a : A} (n : ℕ) (rest : Reply A) → given a ≡ check b n rest → (b ≡ true) × (given a ≡ rest)
+check-passed {b = true} n rest e = (refl, e)
+check-passed {b = false} n rest e = never-given (sym e)
+
+pub check-given : {A : Type 0} {a : A} (b : Bool) (n : ℕ) (rest : Reply A) → check b n rest ≡ given a → (b ≡ true) × (rest ≡ given a)
+check-given b n rest e = let p = check-passed {b = b} n rest (sym e) in (p .0, sym (p .1))
+
+pub check-refused : {A B : Type 0} (b : Bool) (m n : ℕ) (rest : Reply A) (rest′ : Reply B) → (refused m ≡ rest → refused m ≡ rest′) → refused m ≡ check b n rest → refused m ≡ check b n rest′
+check-refused true m n rest rest′ f e = f e
+check-refused false m n rest rest′ f e = let q : m ≡ n = cc in ap refused q
+
+pub refused-alike : {A B : Type 0} (b : Bool) (m n : ℕ) (rest : Reply A) (rest′ : Reply B) → (rest ≡ refused m → rest′ ≡ refused m) → check b n rest ≡ refused m → check b n rest′ ≡ refused m
+refused-alike b m n rest rest′ f e = sym (check-refused b m n rest rest′ (λ h. sym (f (sym h))) (sym e))
