@@ -1,4 +1,4 @@
--- Laws of plain lists and of views over any numbers, of the checks and the segments, and the theorems: Lists, Demand3, Replies, Shape, Made, Cut, Table.
+-- Laws of the checks, and the theorems: Demand3, Made, Cut, Replies, Shape, Table.
 pub mod All
 pub mod Checks
 pub mod Demand3
