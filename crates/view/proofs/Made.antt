@@ -28,7 +28,7 @@ use Rattle.view.specs.Segment.{splitSegment}
 use Rattle.view.specs.Rows.{row}
 use Rattle.view.specs.Demand3.{Lists, MadeDemand3}
 use Rattle.view.specs.Cases.{vert, Q, arc}
-use Rattle.view.specs.Create.{nextOf, prevOf, ending, forwardData, endOnTop, endOnSegment, endingOf, endedAt, createOf, movedOn, roundEnding, roundFrom, newStartOf}
+use Rattle.view.specs.Create.{nextOf, vertexBefore, ending, forwardData, endOnTop, endOnSegment, endingOf, endedAt, createOf, movedOn, roundEnding, roundFrom, newStartOf}
 use Rattle.view.specs.declared.view_data.PlineViewData.{PlineViewData}
 use Rattle.view.specs.declared.ending.Ending.{Ending}
 use Rattle.view.proofs.All.{and-both}
@@ -65,8 +65,8 @@ module _ (g : Grade) (s : List Float) (p : Vector2) (eps : Float) (a : Asked g s
   next-in : (k : ℕ) → nextOf s k < countOf s
   next-in k = mod-lt (k + 1) (omega (arith, size))
 
-  prev-in : (k : ℕ) → bulgeOk g (prevOf s k .bulge) ≡ true
-  prev-in k = bulge-in g _ (vertex-in g s (a .numbers) _ (mod-lt (k + (countOf s - 1)) (omega (arith, size))))
+  before-in : (k : ℕ) → bulgeOk g (vertexBefore s k .bulge) ≡ true
+  before-in k = bulge-in g _ (vertex-in g s (a .numbers) _ (mod-lt (k + (countOf s - 1)) (omega (arith, size))))
 
   -- a forward record whose parts are in range
   made : (start : ℕ) (first : PlineVertex) (e : Ending) → start < countOf s → vertexOk g first ≡ true → e .offset ≤ countOf s → Ended g (first .bulge) e → Fine g s (forwardData start first p e)
@@ -100,7 +100,7 @@ module _ (g : Grade) (s : List Float) (p : Vector2) (eps : Float) (a : Asked g s
     unfolding endingOf endOnTop endOnSegment
     ends at b traverse h ok t =
         either (Ended g b) (vnearOf g p (posOf (vertexOf s at)) eps)
-        (λ _. record { bulge-ok = either (λ (x : Float). bulgeOk g x ≡ true) (eqb (traverse - 1) 0) (λ _. ok) (λ _. prev-in at); even = λ z. sym (ap (λ (f : Bool). cond f b (prevOf s at .bulge)) (eq-eqb (traverse - 1) 0 z)) })
+        (λ _. record { bulge-ok = either (λ (x : Float). bulgeOk g x ≡ true) (eqb (traverse - 1) 0) (λ _. ok) (λ _. before-in at); even = λ z. sym (ap (λ (f : Bool). cond f b (vertexBefore s at .bulge)) (eq-eqb (traverse - 1) 0 z)) })
         (λ _. record { bulge-ok = bulge-in g _ (split-in at h .0); even = λ z. absurd (omega arith) })
 
     -- the view round the whole outline from segment k
@@ -110,7 +110,7 @@ module _ (g : Grade) (s : List Float) (p : Vector2) (eps : Float) (a : Asked g s
         let two = size in
         let split = splitSegment g limit s k p eps in
         either (λ (e : Ending). Fine g s (forwardData k (split .«split_vertex») p e)) (vnearOf g (posOf (vertexOf s k)) p eps)
-        (λ _. made k (split .«split_vertex») (ending (countOf s - 1) (prevOf s k .bulge)) h (split-in k h .1) (omega arith) (record { bulge-ok = prev-in k; even = λ z. absurd (omega arith) }))
+        (λ _. made k (split .«split_vertex») (ending (countOf s - 1) (vertexBefore s k .bulge)) h (split-in k h .1) (omega arith) (record { bulge-ok = before-in k; even = λ z. absurd (omega arith) }))
         (λ _. made k (split .«split_vertex») (ending (countOf s) (split .«updated_start» .bulge)) h (split-in k h .1) (omega arith) (record { bulge-ok = bulge-in g _ (split-in k h .0); even = λ z. absurd (omega arith) }))
 
 module _ (g : Grade) (sound : Sound g) (limit : Float) (s : List Float) (p : Vector2) (eps : Float) (d : PlineViewData) where

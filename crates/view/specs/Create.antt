@@ -19,12 +19,12 @@ use Rattle.view.specs.Segment.{splitSegment}
 use Rattle.view.specs.declared.view_data.PlineViewData.{PlineViewData}
 use Rattle.view.specs.declared.ending.Ending.{Ending}
 
--- `next_wrapping_index`, and the vertex at `prev_wrapping_index`
+-- the number of the next vertex, and the vertex before
 abbrev pub nextOf : List Float → ℕ → ℕ
 nextOf s k = wrapped k 1 (countOf s)
 
-abbrev pub prevOf : List Float → ℕ → PlineVertex
-prevOf s k = vertexPast s k (countOf s - 1)
+abbrev pub vertexBefore : List Float → ℕ → PlineVertex
+vertexBefore s k = vertexPast s k (countOf s - 1)
 
 -- an offset and the bulge of the view's last segment
 abbrev pub ending : ℕ → Float → Ending
@@ -44,7 +44,7 @@ forwardData start first p e =
 
 -- `create`, "intersect lies on top of vertex at start of segment"
 unfoldable pub endOnTop : List Float → ℕ → Float → ℕ → Ending
-endOnTop s at b traverse = ending (traverse - 1) (cond (eqb (traverse - 1) 0) b (prevOf s at .bulge))
+endOnTop s at b traverse = ending (traverse - 1) (cond (eqb (traverse - 1) 0) b (vertexBefore s at .bulge))
 
 -- the record, or 5 for "a resulting offset above the vertex count"
 unfoldable pub endedAt : List Float → ℕ → Vector2 → PlineVertex → Ending → Reply PlineViewData
@@ -58,7 +58,7 @@ module _ (g : Grade) where
   -- "start point on top of vertex, adjust index offset and do not use split bulge"
   unfoldable pub roundEnding : List Float → Vector2 → ℕ → Float → SplitResult → Ending
   roundEnding s p k eps split =
-      cond (vnearOf g (posOf (vertexOf s k)) p eps) (ending (countOf s - 1) (prevOf s k .bulge))
+      cond (vnearOf g (posOf (vertexOf s k)) p eps) (ending (countOf s - 1) (vertexBefore s k .bulge))
       (ending (countOf s) (split .«updated_start» .bulge))
 
   module _ (limit : Float) (s : List Float) where

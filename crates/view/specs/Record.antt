@@ -82,11 +82,11 @@ module _ (g : Grade) where
   unfoldable pub pastOk : List Float → ℕ → ℕ → Bool
   pastOk s start steps = vertexOk g (vertexPast s start steps)
 
-  -- "only the source vertices that it reads": inverted the one that stands there, and before position `offset` the one that its bulge is from
+  -- inverted, a position between the first and the last reads the vertex that stands there, and before position `offset` the one that its bulge is from
   unfoldable pub turnedOk : List Float → ℕ → ℕ → ℕ → Bool
   turnedOk s start offset k = pastOk s start (offset + 1 - k) && (eqb k offset || pastOk s start (offset - k))
 
-  -- at the first and the last position none; forward the k-th past the start
+  -- "only the source vertices that it reads": at the first and the last position none; forward the k-th past the start
   unfoldable pub readsOk : List Float → PlineViewData → ℕ → Bool
   readsOk s d k =
       cond (eqb k 0 || ltb (d .«end_index_offset») k) true
