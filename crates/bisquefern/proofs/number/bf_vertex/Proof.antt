@@ -1,6 +1,6 @@
 -- The reply is that of the call behind it.
 use borrow.Author.Needs.{needs}
-use Rattle.bisquefern.proofs.Laws.{replies}
+use Rattle.lent.proofs.Laws.{replies}
 use Rattle.bisquefern.proofs.number.bf_vertex.Statement.{statement}
 use Rattle.bisquefern.proofs.number.bf_vertex.Tie as tie
 

@@ -1,6 +1,6 @@
 -- The reply is that of the call behind it.
 use borrow.Author.Needs.{needs}
-use Rattle.bisquefern.proofs.Laws.{replies}
+use Rattle.lent.proofs.Laws.{replies}
 use Rattle.bisquefern.proofs.view_call.bf_view_from_new_start.Statement.{statement}
 use Rattle.bisquefern.proofs.view_call.bf_view_from_new_start.Tie as tie
 

@@ -1,6 +1,0 @@
--- What the proofs of several functions use, and that one answer fits square root's promise.
-mod Laws
-mod Copy
-mod Record
-mod Listed
-pub mod Root
