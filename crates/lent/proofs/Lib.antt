@@ -3,4 +3,4 @@ pub mod Laws
 mod Copy
 mod Record
 mod Listed
-pub mod Root
+pub mod Only

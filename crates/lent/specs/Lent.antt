@@ -54,7 +54,7 @@ Answered values reply before = Left reply (λ a. lent (values a) before) before
 abbrev pub one : {B : Type 0} → B → List B
 one b = b ∷ []
 
--- square root is stated by what a root is; `only` of proofs/Root.antt says that one code and one buffer fit
+-- square root is stated by what a root is; `only-root-answered` of proofs/Only.antt says that one code and one buffer fit
 pub record RootAnswered (x : Float) (before : List Float) (code : ℕ) (after : List Float) : Type 0 where
   pub reply : Reply Float
   pub root : IsSqrt binary64 x reply
