@@ -1,0 +1,3 @@
+-- Where the records lie that the calls answer, and demand 3 over bytes.
+pub mod Placed
+pub mod Rows
