@@ -50,6 +50,25 @@ stored-as {B = B} values values′ {before = before} {after} {n} e w =
       holds = w .holds ∙ ap (λ (l : List B). heldBy (lent l before) before) e;
     }
 
+-- what is said of a case of an answer, said of the answer
+pub told : {A B : Type 0} (f : A → B) (answer case : A) (r : B) → answer ≡ case → r ≡ f case → r ≡ f answer
+told f answer case r e h = h ∙ ap f (sym e)
+
+-- an answer's values are written, or its refusal is handed on
+of-values : {A B : Type 0} (values : A → List B) {written before after : List B} {n : ℕ} (x : Reply A) → given written ≡ andThen x (λ a. given (values a)) → Answered itself (given written) before n after
+    → Answered values x before n after
+unfolding andThen
+of-values values {written} (given a) e w = let same : written ≡ values a = cc in stored-as itself values same w
+of-values values (refused m) e w = let z : _≡_ {A = ℕ} 0 1 = cc in absurd (omega arith)
+
+pub gives : {R A B : Type 0} (reply : R → Reply A) (values : A → List B) (answer case : R) (written before after : List B) (n : ℕ) → answer ≡ case → Answered itself (given written) before n after
+    → given written ≡ andThen (reply case) (λ a. given (values a)) → Answered values (reply answer) before n after
+gives reply values answer case written before after n e w g = replies (ap reply (sym e)) (of-values values (reply case) g w)
+
+pub hands-on : {R A : Type 0} (reply : R → Reply A) (C : Type 0) (answer case : R) (store : A → Reply C) (before : C) (n : ℕ) → answer ≡ case → refused n ≡ reply case
+    → Left (reply answer) store before n before
+hands-on reply C answer case store before n e g = refuses (told reply answer case (refused n) e g)
+
 -- ---- two buffers
 
 -- how the writing of values went

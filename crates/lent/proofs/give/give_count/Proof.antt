@@ -1,22 +1,11 @@
 -- The values are written, or the refusal is handed on.
-use mathlib.Core.Path.{sym, ap, refl}
 use borrow.Author.Needs.{needs}
 use Rattle.view.specs.Answers.{countReply}
-use Rattle.lent.specs.Lent.{one, itself}
-use Rattle.lent.proofs.Laws.{refuses, replies, stored-as}
+use Rattle.lent.specs.Lent.{one, andThen}
+use Rattle.lent.proofs.Laws.{gives, hands-on}
 use Rattle.lent.proofs.give.give_count.Statement.{statement}
 use Rattle.lent.proofs.give.give_count.Tie as tie
 
-returns : tie.Need-returns
-returns c =
-    let at-write-words = c .before .before in
-    let at-answer = at-write-words .before .before .before .before in
-    replies (ap countReply (sym (at-answer .answer .given .1))) (stored-as itself one refl (at-write-words .write-words .ensures))
-
-returns-2 : tie.Need-returns-2
-returns-2 c =
-    let at-answer2 = c .before in
-    refuses (ap countReply (sym (at-answer2 .answer2 .given .1)))
-
 pub give-count-spec : {M : Type 1} → statement M
-give-count-spec = tie.close (tie.spec (λ c. search needs) (λ c. search needs) (λ c κs. tt) (λ c. search needs) (λ c. search needs) returns returns-2)
+unfolding andThen
+give-count-spec = tie.close (tie.spec (λ c. search needs) (λ c. search needs) (λ c κs. tt) (λ c. search needs) (λ c. search needs) (λ c. search (gives countReply one)) (λ c. search (hands-on countReply)))

@@ -1,34 +1,11 @@
 -- Each case has the definition's values.
-use mathlib.Core.Path.{sym, ap}
 use borrow.Author.Needs.{needs}
 use Rattle.view.specs.Validation.{verdictOf}
 use Rattle.view.specs.declared.validation.ViewDataValidation.{ViewDataValidation}
 use Rattle.lent.specs.Values.{verdictWords}
+use Rattle.lent.proofs.Laws.{told}
 use Rattle.lent.proofs.verdict.verdict_words.Statement.{statement}
 use Rattle.lent.proofs.verdict.verdict_words.Tie as tie
 
-returns : tie.Need-returns
-returns c = ap (λ (v : ViewDataValidation). verdictWords (verdictOf v)) (sym (c .enum-told .given .1))
-
-returns-2 : tie.Need-returns-2
-returns-2 c =
-    let at-v = c .before in
-    ap (λ (v : ViewDataValidation). verdictWords (verdictOf v)) (sym (at-v .v .given .1))
-
-returns-3 : tie.Need-returns-3
-returns-3 c = ap (λ (v : ViewDataValidation). verdictWords (verdictOf v)) (sym (c .enum-told2 .given .1))
-
-returns-4 : tie.Need-returns-4
-returns-4 c = ap (λ (v : ViewDataValidation). verdictWords (verdictOf v)) (sym (c .enum-told3 .given .1))
-
-returns-5 : tie.Need-returns-5
-returns-5 c = ap (λ (v : ViewDataValidation). verdictWords (verdictOf v)) (sym (c .enum-told4 .given .1))
-
-returns-6 : tie.Need-returns-6
-returns-6 c = ap (λ (v : ViewDataValidation). verdictWords (verdictOf v)) (sym (c .enum-told5 .given .1))
-
-returns-7 : tie.Need-returns-7
-returns-7 c = ap (λ (v : ViewDataValidation). verdictWords (verdictOf v)) (sym (c .enum-told6 .given .1))
-
 pub verdict-words-spec : {M : Type 1} → statement M
-verdict-words-spec = tie.close (tie.spec (λ c. search needs) (λ c. search needs) (λ c. search needs) (λ c. search needs) (λ c. search needs) (λ c. search needs) (λ c. search needs) returns returns-2 returns-3 returns-4 returns-5 returns-6 returns-7)
+verdict-words-spec = tie.close (tie.spec (λ c. search needs) (λ c. search needs) (λ c. search needs) (λ c. search needs) (λ c. search needs) (λ c. search needs) (λ c. search needs) (λ c. search (told (λ (v : ViewDataValidation). verdictWords (verdictOf v)))) (λ c. search (told (λ (v : ViewDataValidation). verdictWords (verdictOf v)))) (λ c. search (told (λ (v : ViewDataValidation). verdictWords (verdictOf v)))) (λ c. search (told (λ (v : ViewDataValidation). verdictWords (verdictOf v)))) (λ c. search (told (λ (v : ViewDataValidation). verdictWords (verdictOf v)))) (λ c. search (told (λ (v : ViewDataValidation). verdictWords (verdictOf v)))) (λ c. search (told (λ (v : ViewDataValidation). verdictWords (verdictOf v)))))
