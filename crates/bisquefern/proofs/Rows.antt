@@ -1,13 +1,14 @@
 -- Demand 3 through the C face: what a step answers fits 64 bytes, which are read back as that very record, so a row over bytes is the row over records.
 use mathlib.Core.Path.{_≡_, refl, sym, ap, ap₂, subst, _∙_}
-use mathlib.Core.List.{List, [], _∷_, _++_}
+use mathlib.Core.List.{List, [], _∷_, _++_, append-nil}
 use Prim.Native.Nat.{ℕ, _*_, _≤_}
 use native.Mathlib.Omega.{arith}
-use lib.ListN.{length, take, drop}
+use lib.ListN.{length, take, drop, drop-of-length-le}
 use lib.Seq.{take-at}
 use lib.Dec.{T, leb, eqb}
 use lib.Ieee.{Float, neg, binary64, fits, ofBits}
 use lib.Ieee.Bits.{ofBits-fits, ofBits-toBits}
+use borrow.Author.Tests.{le-leb}
 use Rattle.real.specs.Refusal.{noRoom, badSheet, badRecord}
 use Rattle.real.specs.Reply.{Reply, refused, given}
 use Rattle.plane.specs.Grade.{double}
@@ -29,11 +30,22 @@ use Rattle.job.specs.Bytes.{floatAt}
 use Rattle.job.specs.Record.{recordFrom, recordOk, recordOf, recordBytes}
 use Rattle.job.specs.RoundTrip.{Fits}
 use Rattle.job.proofs.Records.{from-written}
-use Rattle.lent.specs.Lent.{andThen, both}
+use Rattle.lent.specs.Lent.{andThen, heldBy, lent, both, Answered}
 use Rattle.lent.specs.Values.{listReply}
+use Rattle.lent.proofs.Record.{record-length}
 use Rattle.bisquefern.specs.Calls.{ofRecord}
 use Rattle.bisquefern.specs.Rows.{bytesAfter, Doubles, stepReply, bytesRow, BytesDemand3}
 use Rattle.bisquefern.proofs.Placed.{same-given, turned, trimmed}
+
+-- a call on bytes b into a buffer that holds b leaves there the bytes in hand after it, whether it answers or refuses
+pub call-leaves : {b after : List ℕ} {n : ℕ} (r : Reply PlineViewData) → length b ≡ 64 → Answered recordBytes r b n after → after ≡ bytesAfter b r
+unfolding andThen heldBy lent
+call-leaves (refused m) h w = w .holds
+call-leaves {b} (given d) h w =
+    let size = record-length d in
+    let fits : length (recordBytes d) ≤ length b = omega arith in
+    let all : length b ≤ length (recordBytes d) = omega arith in
+    (simp (le-leb _ _ fits) at (w .holds)) ∙ ap (λ (l : List ℕ). recordBytes d ++ l) (drop-of-length-le b all) ∙ append-nil (recordBytes d)
 
 abbrev Double : Float → Type 0
 Double x = T (fits binary64 x)

@@ -1,6 +1,6 @@
 -- What the proofs of several functions use, and that one answer fits each promise.
 pub mod Laws
 mod Copy
-mod Record
+pub mod Record
 mod Listed
 pub mod Only

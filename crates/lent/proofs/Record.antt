@@ -15,7 +15,7 @@ use Rattle.job.specs.Record.{vertexBytes, pointBytes, placeBytes, endBytes, rec
 use Rattle.lent.specs.Lent.{Answered}
 use Rattle.lent.proofs.Laws.{short, stores}
 
-record-length : (d : PlineViewData) → length (recordBytes d) ≡ 64
+pub record-length : (d : PlineViewData) → length (recordBytes d) ≡ 64
 unfolding recordBytes placeBytes vertexBytes pointBytes endBytes floatBytes bytes8 bytes4
 record-length d = refl
 

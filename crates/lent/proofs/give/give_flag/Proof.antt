@@ -4,7 +4,7 @@ use borrow.Author.Needs.{needs}
 use Rattle.seg.specs.Reply.{boolReply}
 use Rattle.lent.specs.Lent.{one}
 use Rattle.lent.specs.Values.{flagByte}
-use Rattle.lent.proofs.Laws.{refuses, replies, stored-as}
+use Rattle.lent.proofs.Laws.{hands-on, replies, stored-as}
 use Rattle.lent.proofs.give.give_flag.Statement.{statement}
 use Rattle.lent.proofs.give.give_flag.Tie as tie
 
@@ -22,10 +22,5 @@ returns-2 c =
     let at-answer = at-if1 .before .before in
     replies (ap boolReply (sym (at-answer .answer .given .1))) (stored-as one flagByte (sym (ap flagByte (at-if1 .if1 .left))) (at-write-byte2 .write-byte2 .ensures))
 
-returns-3 : tie.Need-returns-3
-returns-3 c =
-    let at-answer2 = c .before in
-    refuses (ap boolReply (sym (at-answer2 .answer2 .given .1)))
-
 pub give-flag-spec : {M : Type 1} → statement M
-give-flag-spec = tie.close (tie.spec (λ c. search needs) (λ c κs. tt) (λ c κs. tt) (λ c. search needs) (λ c. search needs) returns (λ c. search needs) returns-2 returns-3)
+give-flag-spec = tie.close (tie.spec (λ c. search needs) (λ c κs. tt) (λ c κs. tt) (λ c. search needs) (λ c. search needs) returns (λ c. search needs) returns-2 (λ c. search (hands-on boolReply)))

@@ -5,7 +5,7 @@ use Rattle.view.specs.Validation.{markReply, markCase}
 use Rattle.view.specs.declared.validation.Mark.{Mark}
 use Rattle.lent.specs.Lent.{one}
 use Rattle.lent.specs.Values.{markByte}
-use Rattle.lent.proofs.Laws.{refuses, replies, stored-as}
+use Rattle.lent.proofs.Laws.{hands-on, replies, stored-as}
 use Rattle.lent.proofs.give.give_mark.Statement.{statement}
 use Rattle.lent.proofs.give.give_mark.Tie as tie
 
@@ -23,10 +23,5 @@ returns-2 c =
     let at-answer = at-enum-told2 .before .before .before in
     replies (ap markReply (sym (at-answer .answer .given .1))) (stored-as one markByte (ap (λ (m : Mark). markByte (markCase m)) (sym (at-enum-told2 .enum-told2 .given .1))) (at-write-byte2 .write-byte2 .ensures))
 
-returns-3 : tie.Need-returns-3
-returns-3 c =
-    let at-answer2 = c .before in
-    refuses (ap markReply (sym (at-answer2 .answer2 .given .1)))
-
 pub give-mark-spec : {M : Type 1} → statement M
-give-mark-spec = tie.close (tie.spec (λ c. search needs) (λ c. search needs) (λ c κs. tt) (λ c. search needs) (λ c κs. tt) (λ c. search needs) (λ c. search needs) returns (λ c. search needs) returns-2 returns-3)
+give-mark-spec = tie.close (tie.spec (λ c. search needs) (λ c. search needs) (λ c κs. tt) (λ c. search needs) (λ c κs. tt) (λ c. search needs) (λ c. search needs) returns (λ c. search needs) returns-2 (λ c. search (hands-on markReply)))

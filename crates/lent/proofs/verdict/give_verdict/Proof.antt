@@ -2,7 +2,7 @@
 use mathlib.Core.Path.{sym, ap}
 use borrow.Author.Needs.{needs}
 use Rattle.view.specs.Validation.{validationReply}
-use Rattle.lent.proofs.Laws.{refuses, replies}
+use Rattle.lent.proofs.Laws.{hands-on, replies}
 use Rattle.lent.proofs.verdict.give_verdict.Statement.{statement}
 use Rattle.lent.proofs.verdict.give_verdict.Tie as tie
 
@@ -12,10 +12,5 @@ returns c =
     let at-answer = at-put-verdict .before .before .before .before in
     replies (ap validationReply (sym (at-answer .answer .given .1))) (at-put-verdict .put-verdict .ensures)
 
-returns-2 : tie.Need-returns-2
-returns-2 c =
-    let at-answer2 = c .before in
-    refuses (ap validationReply (sym (at-answer2 .answer2 .given .1)))
-
 pub give-verdict-spec : {M : Type 1} → statement M
-give-verdict-spec = tie.close (tie.spec (λ c. search needs) (λ c κs. tt) (λ c. search needs) (λ c. search needs) (λ c. search needs) returns returns-2)
+give-verdict-spec = tie.close (tie.spec (λ c. search needs) (λ c κs. tt) (λ c. search needs) (λ c. search needs) (λ c. search needs) returns (λ c. search (hands-on validationReply)))
