@@ -1,19 +1,19 @@
 -- Demand 3 through the C face: what a step answers fits 64 bytes, which are read back as that very record, so a row over bytes is the row over records.
-use mathlib.Core.Path.{_≡_, refl, sym, ap, ap₂, subst, _∙_}
+use mathlib.Core.Path.{_≡_, refl, sym, ap, subst, _∙_}
 use mathlib.Core.List.{List, [], _∷_, _++_, append-nil}
 use Prim.Native.Nat.{ℕ, _*_, _≤_}
 use native.Mathlib.Omega.{arith}
 use lib.ListN.{length, take, drop, drop-of-length-le}
 use lib.Seq.{take-at}
 use lib.Dec.{T, leb, eqb}
-use lib.Ieee.{Float, neg, binary64, fits, ofBits}
+use lib.Ieee.{Float, binary64, fits, ofBits}
 use lib.Ieee.Bits.{ofBits-fits, ofBits-toBits}
 use borrow.Author.Tests.{le-leb}
 use Rattle.real.specs.Refusal.{noRoom, badSheet, badRecord}
 use Rattle.real.specs.Reply.{Reply, refused, given}
 use Rattle.plane.specs.Grade.{double}
 use Rattle.plane.specs.Range.{mostVertices}
-use Rattle.lists.specs.Plain.{Vert, Step, turn, trim, flat, rowList}
+use Rattle.lists.specs.Plain.{Vert, Step, turn, trim, flat}
 use Rattle.lists.proofs.Good.{Good, turn-good, trim-good}
 use Rattle.lists.proofs.Tab.{length-flat}
 use Rattle.view.specs.Outline.{countOf, srcOf}
@@ -28,12 +28,10 @@ use Rattle.view.proofs.Demand3.{demand3}
 use Rattle.view.proofs.Shape.{list-count}
 use Rattle.job.specs.Bytes.{floatAt}
 use Rattle.job.specs.Record.{recordFrom, recordOk, recordOf, recordBytes}
-use Rattle.job.specs.RoundTrip.{Fits}
 use Rattle.job.proofs.Records.{from-written}
 use Rattle.lent.specs.Lent.{andThen, heldBy, lent, both, Answered}
 use Rattle.lent.specs.Values.{listReply}
 use Rattle.lent.proofs.Record.{record-length}
-use Rattle.bisquefern.specs.Calls.{ofRecord}
 use Rattle.bisquefern.specs.Rows.{bytesAfter, Doubles, stepReply, bytesRow, BytesDemand3}
 use Rattle.bisquefern.proofs.Placed.{same-given, turned, trimmed}
 
