@@ -1,6 +1,4 @@
--- What the proofs of several functions use, and that one answer fits square root's promise.
-mod Laws
-mod Copy
-mod Record
-mod Listed
-pub mod Root
+-- Where the records lie that the calls answer, and demand 3 over bytes.
+mod Read
+pub mod Placed
+pub mod Rows

@@ -1,11 +1,8 @@
 // The library's face for C and what links C. A slice is a pointer and a length. Each function returns 0 where it answers, else
 // document 01's refusal number, and then has written nothing.
-mod give;
 mod number;
 mod segment;
-mod verdict;
 mod view_call;
-mod write;
 
 pub use number::bf_sqrt;
 pub use number::bf_vertex;

@@ -1,12 +1,12 @@
 // Square root, and the vertex from three numbers.
-use crate::give::give_root;
-use crate::give::give_vertex;
+use lent::give_root;
+use lent::give_vertex;
 use plane::vertex_from_slice;
 use real::sqrt;
 ghost use Rattle.plane.specs.Grade.{double};
 ghost use Rattle.plane.specs.From.{vertexFrom};
-ghost use Rattle.bisquefern.specs.Lent.{Answered, RootAnswered};
-ghost use Rattle.bisquefern.specs.Segment.{vertexNumbers};
+ghost use Rattle.lent.specs.Lent.{Answered, RootAnswered};
+ghost use Rattle.lent.specs.Values.{vertexNumbers};
 
 // The square root of x. 1, 8.
 #[no_mangle]

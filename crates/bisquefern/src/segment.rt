@@ -1,12 +1,12 @@
 // The segment calls. A segment is 6 numbers: x, y and bulge of its two vertices.
-use crate::give::give_box;
-use crate::give::give_circle;
-use crate::give::give_flag;
-use crate::give::give_point;
-use crate::give::give_split;
-use plane::PlineVertex;
+use lent::SegmentAnswer;
+use lent::give_box;
+use lent::give_circle;
+use lent::give_flag;
+use lent::give_point;
+use lent::give_split;
+use lent::segment_from_slice;
 use plane::Vector2;
-use real::BAD_OUTLINE;
 use seg::seg_arc_radius_and_center;
 use seg::seg_bounding_box;
 use seg::seg_closest_point;
@@ -15,7 +15,6 @@ use seg::seg_fast_approx_bounding_box;
 use seg::seg_midpoint;
 use seg::seg_split_at_point;
 use seg::seg_tangent_vector;
-ghost use mathlib.Core.Path.{_≡_};
 ghost use Rattle.plane.specs.Grade.{double};
 ghost use Rattle.seg.specs.Arc.{segCircle};
 ghost use Rattle.seg.specs.Split.{segSplit};
@@ -24,38 +23,14 @@ ghost use Rattle.seg.specs.Closest.{segClosest};
 ghost use Rattle.seg.specs.Distance.{segFar};
 ghost use Rattle.seg.specs.Bounds.{segBox, segFastBox};
 ghost use Rattle.seg.specs.Middle.{segMid};
-ghost use Rattle.bisquefern.specs.Lent.{Answered};
-ghost use Rattle.bisquefern.specs.Segment as spec;
-ghost use Rattle.bisquefern.specs.Segment.{ofSegment, point};
-
-pub enum SegmentAnswer {
-    Given(PlineVertex, PlineVertex),
-    Refused(u8),
-}
-
-fn segment_from_slice(s: &[f64]) -> SegmentAnswer
-    ensures { λ r. ⌜ spec.segmentReply r ≡ spec.segmentFrom (now (s .entry)) ⌝ }
-{
-    if s.len() != 6 {
-        return SegmentAnswer::Refused(BAD_OUTLINE);
-    }
-    let v1 = PlineVertex {
-        x: s[0],
-        y: s[1],
-        bulge: s[2],
-    };
-    let v2 = PlineVertex {
-        x: s[3],
-        y: s[4],
-        bulge: s[5],
-    };
-    SegmentAnswer::Given(v1, v2)
-}
+ghost use Rattle.lent.specs.Lent.{Answered};
+ghost use Rattle.lent.specs.Values as values;
+ghost use Rattle.bisquefern.specs.Calls.{ofSegment, point};
 
 // Radius and centre of an arc. 3, 1, 6, 8.
 #[no_mangle]
 pub extern "C" fn bf_seg_arc_radius_and_center(seg: &[f64], out: &mut [f64]) -> u8
-    ensures { λ r. ⌜ Answered spec.circleNumbers (ofSegment (now (seg .entry)) (segCircle double (double .line))) (now (out .entry)) r (now (out .exit)) ⌝ }
+    ensures { λ r. ⌜ Answered values.circleNumbers (ofSegment (now (seg .entry)) (segCircle double (double .line))) (now (out .entry)) r (now (out .exit)) ⌝ }
 {
     let segment = segment_from_slice(seg);
     match segment {
@@ -73,7 +48,7 @@ pub extern "C" fn bf_seg_split_at_point(
     tolerance: f64,
     out: &mut [f64],
 ) -> u8
-    ensures { λ r. ⌜ Answered spec.splitNumbers (ofSegment (now (seg .entry)) (λ v1 v2. segSplit double (double .line) v1 v2 (point x y) tolerance)) (now (out .entry)) r (now (out .exit)) ⌝ }
+    ensures { λ r. ⌜ Answered values.splitNumbers (ofSegment (now (seg .entry)) (λ v1 v2. segSplit double (double .line) v1 v2 (point x y) tolerance)) (now (out .entry)) r (now (out .exit)) ⌝ }
 {
     let segment = segment_from_slice(seg);
     match segment {
@@ -88,7 +63,7 @@ pub extern "C" fn bf_seg_split_at_point(
 // 3, 1, 8.
 #[no_mangle]
 pub extern "C" fn bf_seg_tangent_vector(seg: &[f64], x: f64, y: f64, out: &mut [f64]) -> u8
-    ensures { λ r. ⌜ Answered spec.pointNumbers (ofSegment (now (seg .entry)) (λ v1 v2. segTangent double (double .line) v1 v2 (point x y))) (now (out .entry)) r (now (out .exit)) ⌝ }
+    ensures { λ r. ⌜ Answered values.pointNumbers (ofSegment (now (seg .entry)) (λ v1 v2. segTangent double (double .line) v1 v2 (point x y))) (now (out .entry)) r (now (out .exit)) ⌝ }
 {
     let segment = segment_from_slice(seg);
     match segment {
@@ -108,7 +83,7 @@ pub extern "C" fn bf_seg_closest_point(
     tolerance: f64,
     out: &mut [f64],
 ) -> u8
-    ensures { λ r. ⌜ Answered spec.pointNumbers (ofSegment (now (seg .entry)) (λ v1 v2. segClosest double (double .line) v1 v2 (point x y) tolerance)) (now (out .entry)) r (now (out .exit)) ⌝ }
+    ensures { λ r. ⌜ Answered values.pointNumbers (ofSegment (now (seg .entry)) (λ v1 v2. segClosest double (double .line) v1 v2 (point x y) tolerance)) (now (out .entry)) r (now (out .exit)) ⌝ }
 {
     let segment = segment_from_slice(seg);
     match segment {
@@ -130,7 +105,7 @@ pub extern "C" fn bf_seg_distance_is_greater_than(
     tolerance: f64,
     out: &mut [u8],
 ) -> u8
-    ensures { λ r. ⌜ Answered spec.flagByte (ofSegment (now (seg .entry)) (λ v1 v2. segFar double (double .line) v1 v2 (point x y) distance tolerance)) (now (out .entry)) r (now (out .exit)) ⌝ }
+    ensures { λ r. ⌜ Answered values.flagByte (ofSegment (now (seg .entry)) (λ v1 v2. segFar double (double .line) v1 v2 (point x y) distance tolerance)) (now (out .entry)) r (now (out .exit)) ⌝ }
 {
     let segment = segment_from_slice(seg);
     match segment {
@@ -145,7 +120,7 @@ pub extern "C" fn bf_seg_distance_is_greater_than(
 // Least x and y, greatest x and y. 3, 1, 8.
 #[no_mangle]
 pub extern "C" fn bf_seg_fast_approx_bounding_box(seg: &[f64], out: &mut [f64]) -> u8
-    ensures { λ r. ⌜ Answered spec.boxNumbers (ofSegment (now (seg .entry)) (segFastBox double (double .line))) (now (out .entry)) r (now (out .exit)) ⌝ }
+    ensures { λ r. ⌜ Answered values.boxNumbers (ofSegment (now (seg .entry)) (segFastBox double (double .line))) (now (out .entry)) r (now (out .exit)) ⌝ }
 {
     let segment = segment_from_slice(seg);
     match segment {
@@ -157,7 +132,7 @@ pub extern "C" fn bf_seg_fast_approx_bounding_box(seg: &[f64], out: &mut [f64]) 
 // The same of the true box. 3, 1, 8.
 #[no_mangle]
 pub extern "C" fn bf_seg_bounding_box(seg: &[f64], out: &mut [f64]) -> u8
-    ensures { λ r. ⌜ Answered spec.boxNumbers (ofSegment (now (seg .entry)) (segBox double (double .line))) (now (out .entry)) r (now (out .exit)) ⌝ }
+    ensures { λ r. ⌜ Answered values.boxNumbers (ofSegment (now (seg .entry)) (segBox double (double .line))) (now (out .entry)) r (now (out .exit)) ⌝ }
 {
     let segment = segment_from_slice(seg);
     match segment {
@@ -169,7 +144,7 @@ pub extern "C" fn bf_seg_bounding_box(seg: &[f64], out: &mut [f64]) -> u8
 // 3, 1, 8.
 #[no_mangle]
 pub extern "C" fn bf_seg_midpoint(seg: &[f64], out: &mut [f64]) -> u8
-    ensures { λ r. ⌜ Answered spec.pointNumbers (ofSegment (now (seg .entry)) (segMid double (double .line))) (now (out .entry)) r (now (out .exit)) ⌝ }
+    ensures { λ r. ⌜ Answered values.pointNumbers (ofSegment (now (seg .entry)) (segMid double (double .line))) (now (out .entry)) r (now (out .exit)) ⌝ }
 {
     let segment = segment_from_slice(seg);
     match segment {

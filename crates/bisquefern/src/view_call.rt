@@ -1,25 +1,24 @@
 // The view calls on an outline, numbers in threes, and a record, the job sheet's 64 bytes. A record's own refusals, 11 and 12, come first.
-use crate::give::give_count;
-use crate::give::give_mark;
-use crate::give::give_record;
-use crate::give::give_vertex;
-use crate::verdict::give_verdict;
-use crate::write::write_words;
 use job::RecordAnswer;
 use job::record_from_bytes;
+use lent::give_count;
+use lent::give_list;
+use lent::give_mark;
+use lent::give_record;
+use lent::give_verdict;
+use lent::give_vertex;
 use plane::PlineVertex;
 use plane::Vector2;
 use real::BAD_OUTLINE;
-use view::CountAnswer;
 use view::PlineViewData;
 ghost use Rattle.plane.specs.Grade.{double};
 ghost use Rattle.view.specs.Answers.{getVertexOf, vertexCountOf, reverseOf, trimOf};
 ghost use Rattle.view.specs.Validation.{validateOf, markAnswer};
 ghost use Rattle.view.specs.Create.{createOf, newStartOf};
 ghost use Rattle.job.specs.Record.{recordBytes};
-ghost use Rattle.bisquefern.specs.Lent.{itself, one, both, Answered, BothAnswered};
-ghost use Rattle.bisquefern.specs.Segment.{point, vertexNumbers};
-ghost use Rattle.bisquefern.specs.View.{ofRecord, ofVertex, isClosed, listReply, markByte, verdictValues};
+ghost use Rattle.lent.specs.Lent.{itself, one, both, Answered, BothAnswered};
+ghost use Rattle.lent.specs.Values.{vertexNumbers, listReply, markByte, verdictValues};
+ghost use Rattle.bisquefern.specs.Calls.{ofRecord, ofVertex, isClosed, point};
 
 // The record of a view from `vertex` on segment `start`, over `traverse` vertices to (x, y) on segment `intersect`. 3, 1, 2, 5, 4, 5, 8.
 #[no_mangle]
@@ -133,23 +132,6 @@ pub extern "C" fn bf_view_get(outline: &[f64], bytes: &[u8], position: u64, out:
     match decoded {
         RecordAnswer::Given(d) => give_vertex(d.get_vertex(outline, position as usize), out),
         RecordAnswer::Refused(n) => n,
-    }
-}
-
-// The list and its count, into buffers that may both be short.
-fn give_list(outline: &[f64], d: PlineViewData, out: &mut [f64], count: &mut [u64]) -> u8
-    ensures { λ r. ⌜ BothAnswered itself (listReply (now (outline .entry)) d) (both (now (count .entry)) (now (out .entry))) r (both (now (count .exit)) (now (out .exit))) ⌝ }
-{
-    if count.len() < 1 {
-        return give_count(d.vertex_count(outline), count);
-    }
-    let listed = d.list(outline, out);
-    match listed {
-        CountAnswer::Given(n) => {
-            let values = [n as u64];
-            write_words(&values, count)
-        }
-        CountAnswer::Refused(n) => n,
     }
 }
 

@@ -1,24 +1,8 @@
 -- Past the reading of the segment, the reply is that of the call behind it.
-use mathlib.Core.Path.{sym, ap, _∙_}
 use borrow.Author.Needs.{needs}
-use Rattle.bisquefern.specs.Segment.{segmentReply}
-use Rattle.bisquefern.proofs.Laws.{past, stops}
+use Rattle.bisquefern.proofs.Read.{reads}
 use Rattle.bisquefern.proofs.segment.bf_seg_distance_is_greater_than.Statement.{statement}
 use Rattle.bisquefern.proofs.segment.bf_seg_distance_is_greater_than.Tie as tie
 
-returns : tie.Need-returns
-returns c =
-    let at-give-flag = c .before .before in
-    let at-seg-distance-is-greater-than = at-give-flag .before .before in
-    let at-segment = at-seg-distance-is-greater-than .before .before in
-    let at-segment-from-slice = at-segment .before .before in
-    past _ (ap segmentReply (sym (at-segment .segment .given .1)) ∙ at-segment-from-slice .segment-from-slice .ensures) (at-seg-distance-is-greater-than .seg-distance-is-greater-than .ensures) (at-give-flag .give-flag .ensures)
-
-returns-2 : tie.Need-returns-2
-returns-2 c =
-    let at-segment2 = c .before in
-    let at-segment-from-slice = at-segment2 .before .before in
-    stops _ (ap segmentReply (sym (at-segment2 .segment2 .given .1)) ∙ at-segment-from-slice .segment-from-slice .ensures)
-
 pub bf-seg-distance-is-greater-than-spec : {M : Type 1} → statement M
-bf-seg-distance-is-greater-than-spec = tie.close (tie.spec (λ c κs. tt) (λ c. search needs) (λ c κs. tt) (λ c κs. tt) (λ c. search needs) (λ c. search needs) returns returns-2)
+bf-seg-distance-is-greater-than-spec = tie.close (tie.spec (λ c κs. tt) (λ c. search needs) (λ c κs. tt) (λ c κs. tt) (λ c. search needs) (λ c. search needs) (λ c. search reads) (λ c. search reads))

@@ -2,8 +2,8 @@
 use mathlib.Core.Path.{_∙_}
 use borrow.Author.Needs.{needs}
 use borrow.Author.Tests.{ne-eqb, eq-eqb}
-use Rattle.bisquefern.specs.View.{ofVertex}
-use Rattle.bisquefern.proofs.Laws.{refuses, replies}
+use Rattle.bisquefern.specs.Calls.{ofVertex}
+use Rattle.lent.proofs.Laws.{refuses, replies}
 use Rattle.bisquefern.proofs.view_call.bf_view_create.Statement.{statement}
 use Rattle.bisquefern.proofs.view_call.bf_view_create.Tie as tie
 

@@ -1,14 +1,8 @@
 -- The reply is that of the call behind it.
 use borrow.Author.Needs.{needs}
-use Rattle.bisquefern.proofs.Laws.{replies}
+use Rattle.lent.proofs.Laws.{replies}
 use Rattle.bisquefern.proofs.view_call.bf_view_from_new_start.Statement.{statement}
 use Rattle.bisquefern.proofs.view_call.bf_view_from_new_start.Tie as tie
 
-returns : tie.Need-returns
-returns c =
-    let at-give-record = c .before .before in
-    let at-from-new-start = at-give-record .before .before in
-    replies (at-from-new-start .from-new-start .ensures) (at-give-record .give-record .ensures)
-
 pub bf-view-from-new-start-spec : {M : Type 1} → statement M
-bf-view-from-new-start-spec = tie.close (tie.spec (λ c κs. tt) (λ c κs. tt) (λ c. search needs) returns)
+bf-view-from-new-start-spec = tie.close (tie.spec (λ c κs. tt) (λ c κs. tt) (λ c. search needs) (λ c. search replies))

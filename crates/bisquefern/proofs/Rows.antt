@@ -1,0 +1,137 @@
+-- Demand 3 through the C face: what a step answers fits 64 bytes, which are read back as that very record, so a row over bytes is the row over records.
+use mathlib.Core.Path.{_≡_, refl, sym, ap, subst, _∙_}
+use mathlib.Core.List.{List, [], _∷_, _++_, append-nil}
+use Prim.Native.Nat.{ℕ, _*_, _≤_}
+use native.Mathlib.Omega.{arith}
+use lib.ListN.{length, take, drop, drop-of-length-le}
+use lib.Seq.{take-at}
+use lib.Dec.{T, leb, eqb}
+use lib.Ieee.{Float, binary64, fits, ofBits}
+use lib.Ieee.Bits.{ofBits-fits, ofBits-toBits}
+use borrow.Author.Tests.{le-leb}
+use Rattle.real.specs.Refusal.{noRoom, badSheet, badRecord}
+use Rattle.real.specs.Reply.{Reply, refused, given}
+use Rattle.plane.specs.Grade.{double}
+use Rattle.plane.specs.Range.{mostVertices}
+use Rattle.lists.specs.Plain.{Vert, Step, turn, trim, flat}
+use Rattle.lists.proofs.Good.{Good, turn-good, trim-good}
+use Rattle.lists.proofs.Tab.{length-flat}
+use Rattle.view.specs.Outline.{countOf, srcOf}
+use Rattle.view.specs.Record.{viewOf, vertices, needed, listed}
+use Rattle.view.specs.Needs.{Placed}
+use Rattle.view.specs.Answers.{reverseOf, trimOf, vertexCountOf, listOf, listBuffer, bufferAfter, written}
+use Rattle.view.specs.Rows.{after, step, row}
+use Rattle.view.specs.Demand3.{Unrefused, Even, Lists}
+use Rattle.view.specs.declared.view_data.PlineViewData.{PlineViewData}
+use Rattle.view.proofs.Checks.{check-passed, checked, checked-rest}
+use Rattle.view.proofs.Demand3.{demand3}
+use Rattle.view.proofs.Shape.{list-count}
+use Rattle.job.specs.Bytes.{floatAt}
+use Rattle.job.specs.Record.{recordFrom, recordOk, recordOf, recordBytes}
+use Rattle.job.proofs.Records.{from-written}
+use Rattle.lent.specs.Lent.{andThen, heldBy, lent, both, Answered}
+use Rattle.lent.specs.Values.{listReply}
+use Rattle.lent.proofs.Record.{record-length}
+use Rattle.bisquefern.specs.Rows.{bytesAfter, Doubles, stepReply, bytesRow, BytesDemand3}
+use Rattle.bisquefern.proofs.Placed.{same-given, turned, trimmed}
+
+-- a call on bytes b into a buffer that holds b leaves there the bytes in hand after it, whether it answers or refuses
+pub call-leaves : {b after : List ℕ} {n : ℕ} (r : Reply PlineViewData) → length b ≡ 64 → Answered recordBytes r b n after → after ≡ bytesAfter b r
+unfolding andThen heldBy lent
+call-leaves (refused m) h w = w .holds
+call-leaves {b} (given d) h w =
+    let size = record-length d in
+    let fits : length (recordBytes d) ≤ length b = omega arith in
+    let all : length b ≤ length (recordBytes d) = omega arith in
+    (simp (le-leb _ _ fits) at (w .holds)) ∙ ap (λ (l : List ℕ). recordBytes d ++ l) (drop-of-length-le b all) ∙ append-nil (recordBytes d)
+
+abbrev Double : Float → Type 0
+Double x = T (fits binary64 x)
+
+module _ (s : List Float) where
+  -- a record in the outline, its floats f64, its bulges equal where its offset is 0
+  abbrev Sound : PlineViewData → Type 0
+  Sound d = Good Double Double (countOf s) (viewOf d)
+
+  -- the record that bytes are
+  read-sound : (b : List ℕ) (d : PlineViewData) → recordFrom b ≡ given d → Placed s d → Even double d → Sound d
+  unfolding recordFrom floatAt
+  read-sound b d e =
+      let size = check-passed {b = eqb (length b) 64} badSheet _ (sym e) in
+      let form = check-passed {b = recordOk b 0} badRecord (given (recordOf b 0)) (size .1) in
+      subst (λ (r : PlineViewData). Placed s r → Even double r → Sound r) (same-given (form .1))
+      (λ p even. record {
+        start = p .start;
+        offset = p .offset;
+        first = record { x = ofBits-fits binary64 _; y = ofBits-fits binary64 _; bulge = ofBits-fits binary64 _ };
+        endBulge = ofBits-fits binary64 _;
+        endX = ofBits-fits binary64 _;
+        endY = ofBits-fits binary64 _;
+        even = λ z. let h = even z in sym (ofBits-toBits binary64 _ (h .first)) ∙ ap (ofBits binary64) (h .bits) ∙ ofBits-toBits binary64 _ (h .second);
+      })
+
+  turn-sound : (d d′ : PlineViewData) → Sound d → given d′ ≡ reverseOf double s d → Sound d′
+  turn-sound d d′ h e = subst Sound (turned s d d′ e .is) (turn-good Double Double (countOf s) (viewOf d) h)
+
+  module _ (doubles : Doubles s) where
+    trim-sound : (d d′ : PlineViewData) (i j : ℕ) → Sound d → given d′ ≡ trimOf double s d i j → Sound d′
+    trim-sound d d′ i j h e =
+        let t = trimmed s d d′ i j e in
+        subst Sound (t .is)
+        (trim-good Double Double (double .zero) (srcOf s) (countOf s) (omega (arith, t .clear .placed .two)) (λ k q. record { x = doubles _; y = doubles _; bulge = doubles _ }) (viewOf d) h i j (t .below) (t .within))
+
+    module _ (few : countOf s ≤ mostVertices) where
+      -- bytes and the record that they are
+      record Same (b : List ℕ) (d : PlineViewData) : Type 0 where
+        is : recordFrom b ≡ given d
+        sound : Sound d
+
+      written-same : (d : PlineViewData) → Sound d → recordFrom (recordBytes d) ≡ given d
+      written-same d h =
+          from-written d
+          (record { start = omega (arith, h .start); offset = omega (arith, h .offset); x = h .first .x; y = h .first .y; bulge = h .first .bulge; end-bulge = h .endBulge; end-x = h .endX; end-y = h .endY })
+
+      after-same : (b : List ℕ) (d : PlineViewData) (r : Reply PlineViewData) → Same b d → ((d′ : PlineViewData) → given d′ ≡ r → Sound d′) → Same (bytesAfter b r) (after d r)
+      after-same b d (given d′) h f = record { is = written-same d′ (f d′ refl); sound = f d′ refl }
+      after-same b d (refused n) h f = h
+
+      step-same : (t : Step) (b : List ℕ) (d : PlineViewData) → Same b d → Same (bytesAfter b (stepReply s t b)) (step double s t d)
+      unfolding stepReply step andThen
+      step-same turn b d h = rw (h .is) (after-same b d (reverseOf double s d) h (λ d′. turn-sound d d′ (h .sound)))
+      step-same (trim i j) b d h = rw (h .is) (after-same b d (trimOf double s d i j) h (λ d′. trim-sound d d′ i j (h .sound)))
+
+      rows-same : (ts : List Step) (b : List ℕ) (d : PlineViewData) → Same b d → Same (bytesRow s ts b) (row double s ts d)
+      unfolding bytesRow row
+      rows-same [] b d h = h
+      rows-same (t ∷ ts) b d h = rows-same ts _ _ (step-same t b d h)
+
+  -- the reply of the listing call to a record that lists l
+  reply-lists : (d : PlineViewData) (l : List (Vert Float)) → Lists double s d l → listReply s d ≡ given (both (length l ∷ []) (flat l))
+  unfolding listReply andThen vertexCountOf listOf listBuffer bufferAfter written
+  reply-lists d l h =
+      let m : ℕ = 3 * length l in
+      let out = flat l in
+      let size : length out ≡ m = length-flat l in
+      let answer : listOf double s d m ≡ given (length l) = h .answer m (omega arith) in
+      let k = checked double s d _ (sym answer) in
+      let room = check-passed {b = leb (needed d) m} noRoom (given (vertices d)) (sym answer ∙ checked-rest double s d _ k) in
+      let count : vertices d ≡ length l = same-given (room .1) in
+      let counted : vertexCountOf double s d ≡ given (length l) = checked-rest double s d _ k ∙ ap given count in
+      let buffer : flat (listed double s d) ++ drop (needed d) out ≡ out ++ drop m out =
+      sym (ap (λ (r : Reply ℕ). bufferAfter r out (written double s d out)) (h .answer (length out) (omega arith))) ∙ h .buffer out (omega arith) in
+      let same : flat (listed double s d) ≡ out =
+      sym (take-at (flat (listed double s d)) (drop (needed d) out) m (length-flat (listed double s d) ∙ ap (λ (n : ℕ). 3 * n) (list-count double s d ∙ count))) ∙ ap (take m) buffer
+      ∙ take-at out (drop m out) m size in
+      ap (λ (r : Reply ℕ). andThen r (λ n. given (both (n ∷ []) (flat (listed double s d))))) counted ∙ ap (λ (x : List Float). given (both (length l ∷ []) x)) same
+
+-- demand 3 over bytes, of an outline of f64s
+pub bytes-demand3 : (s : List Float) (b : List ℕ) (d : PlineViewData) → Doubles s → recordFrom b ≡ given d → Unrefused double s d → Even double d → BytesDemand3 s b d
+unfolding listOf andThen
+bytes-demand3 s b d doubles e u even =
+    let p = checked double s d _ (sym (u .answer)) .placed in
+    let rows : (ts : List Step) → recordFrom (bytesRow s ts b) ≡ given (row double s ts d) = λ ts.
+    rows-same s doubles (p .few) ts b d (record { is = e; sound = read-sound s b d e p even }) .is in
+    record {
+      rows = rows;
+      lists = λ ts. ap (λ (r : Reply PlineViewData). andThen r (listReply s)) (rows ts) ∙ reply-lists s (row double s ts d) _ (demand3 double s d u even .rows ts .lists);
+    }
