@@ -11,7 +11,7 @@ use native.Mathlib.Decide.{decLt}
 use native.Mathlib.Omega.{arith}
 use lib.ListN.{length, set, take, drop, length-append}
 use lib.Seq.{sets, sets-eq, length-sets, take-at}
-use Rattle.text.specs.Wrote.{Wrote, Put, Filled}
+use Rattle.text.specs.Wrote.{Wrote, Piece, Put, Filled}
 
 pub sets-append : (l : List ℕ) (i : ℕ) (t u : List ℕ) → sets (sets l i t) (i + length t) u ≡ sets l i (t ++ u)
 sets-append l i [] u = ap (λ (k : ℕ). sets l k u) (add-zero i)
@@ -35,15 +35,58 @@ next {l₀} {l₁} {l₂} {at} {e} {f} {t} {u} p q =
 pub named : {l l′ : List ℕ} {at e : ℕ} {t u : List ℕ} → t ≡ u → Wrote l at t l′ e → Wrote l at u l′ e
 named {l} {l′} {at} {e} p w = subst (λ (s : List ℕ). Wrote l at s l′ e) p w
 
+-- the same, the last piece first: the order in which a search finds the pieces
+pub last : {l₀ l₁ l₂ : List ℕ} {at e f : ℕ} {t u : List ℕ} → Wrote l₁ e u l₂ f → Wrote l₀ at t l₁ e → Wrote l₀ at (t ++ u) l₂ f
+last q p = next p q
+
+pub ruleset writes = (last)
+
+-- ---- pieces: each written where there is room for it
+
+pub no-piece : (l : List ℕ) (i : ℕ) → Piece l i [] l i
+no-piece l i = record { wrote = λ h. none l i }
+
+pub then : {l₀ l₁ l₂ : List ℕ} {at e f : ℕ} {t u : List ℕ} → Piece l₀ at t l₁ e → Piece l₁ e u l₂ f → Piece l₀ at (t ++ u) l₂ f
+then {l₀} {l₁} {l₂} {at} {e} {f} {t} {u} p q = record {
+  wrote = λ h.
+      let n = length-append t u in
+      let w = p .wrote (omega arith) in
+      let m = w .end in
+      let k = ap length (w .text) ∙ length-sets l₀ at t in
+      next w (q .wrote (omega arith));
+}
+
+pub named-piece : {l l′ : List ℕ} {at e : ℕ} {t u : List ℕ} → t ≡ u → Piece l at t l′ e → Piece l at u l′ e
+named-piece {l} {l′} {at} {e} p w = subst (λ (s : List ℕ). Piece l at s l′ e) p w
+
+-- ---- three texts and five, one after the other, for any promise by which two are one
+
+pub record Joins (R : List ℕ → ℕ → List ℕ → List ℕ → ℕ → Type 0) : Type 0 where
+  pub both : (l₀ l₁ l₂ : List ℕ) (at e f : ℕ) (t u : List ℕ) → R l₀ at t l₁ e → R l₁ e u l₂ f → R l₀ at (t ++ u) l₂ f
+
+pub wrotes : Joins Wrote
+wrotes = record { both = λ l₀ l₁ l₂ at e f t u p q. next p q }
+
+pub pieces : Joins Piece
+pieces = record { both = λ l₀ l₁ l₂ at e f t u p q. then p q }
+
+module _ {R : List ℕ → ℕ → List ℕ → List ℕ → ℕ → Type 0} (j : Joins R) where
+  pub three : {l₀ l₁ l₂ l₃ : List ℕ} {at e₁ e₂ e₃ : ℕ} {a b c : List ℕ} → R l₀ at a l₁ e₁ → R l₁ e₁ b l₂ e₂ → R l₂ e₂ c l₃ e₃ → R l₀ at (a ++ b ++ c) l₃ e₃
+  three p q r = j .both _ _ _ _ _ _ _ _ (j .both _ _ _ _ _ _ _ _ p q) r
+
+  pub five : {l₀ l₁ l₂ l₃ l₄ l₅ : List ℕ} {at e₁ e₂ e₃ e₄ e₅ : ℕ} {a b c d e : List ℕ}
+      → R l₀ at a l₁ e₁ → R l₁ e₁ b l₂ e₂ → R l₂ e₂ c l₃ e₃ → R l₃ e₃ d l₄ e₄ → R l₄ e₄ e l₅ e₅ → R l₀ at (a ++ b ++ c ++ d ++ e) l₅ e₅
+  five p q r s t = j .both _ _ _ _ _ _ _ _ (j .both _ _ _ _ _ _ _ _ (three p q r) s) t
+
 -- ---- a text that is put where it fits
 
 -- it fitted, and was written
 pub fitted : {l l′ t : List ℕ} {at e : ℕ} → at + length t ≤ length l → Wrote l at t l′ e → Put l at t l′ e
-fitted {l} {l′} {t} {at} {e} h w = record { wrote = λ p. w; left = λ p. absurd (let z : ⊥ = omega arith in z) }
+fitted {l} {l′} {t} {at} {e} h w = record { piece = record { wrote = λ p. w }; left = λ p. absurd (let z : ⊥ = omega arith in z) }
 
 -- it did not, and nothing was
 pub full : {l t : List ℕ} {at : ℕ} → length l < at + length t → Put l at t l at
-full {l} {t} {at} h = record { wrote = λ p. absurd (let z : ⊥ = omega arith in z); left = λ p. (refl, refl) }
+full {l} {t} {at} h = record { piece = record { wrote = λ p. absurd (let z : ⊥ = omega arith in z) }; left = λ p. (refl, refl) }
 
 -- n bytes fit behind a place where as many are left
 pub behind : (at n m : ℕ) → at ≤ m → leb n (m - at) ≡ leb (at + n) m
@@ -109,9 +152,3 @@ front-of {l} {l′} {t} {n} f = ap (take n) (f .holds) ∙ take-at t (drop n l) 
 
 pub nothing : (l : List ℕ) → Filled [] l l 0
 nothing l = record { count = refl; room = omega arith; holds = refl }
-
--- the same, the last piece first: the order in which a search finds the pieces
-pub last : {l₀ l₁ l₂ : List ℕ} {at e f : ℕ} {t u : List ℕ} → Wrote l₁ e u l₂ f → Wrote l₀ at t l₁ e → Wrote l₀ at (t ++ u) l₂ f
-last q p = next p q
-
-pub ruleset writes = (last)

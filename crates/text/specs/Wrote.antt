@@ -10,9 +10,13 @@ pub record Wrote (l : List ℕ) (at : ℕ) (t : List ℕ) (l′ : List ℕ) (e :
   pub text : l′ ≡ sets l at t
   pub end : e ≡ at + length t
 
--- the same where l has room for the text; else l is left as it was, and e is `at`
-pub record Put (l : List ℕ) (at : ℕ) (t : List ℕ) (l′ : List ℕ) (e : ℕ) : Type 0 where
+-- the same where l has room for the text
+pub record Piece (l : List ℕ) (at : ℕ) (t : List ℕ) (l′ : List ℕ) (e : ℕ) : Type 0 where
   pub wrote : at + length t ≤ length l → Wrote l at t l′ e
+
+-- and where it has none, l is left as it was, and e is `at`
+pub record Put (l : List ℕ) (at : ℕ) (t : List ℕ) (l′ : List ℕ) (e : ℕ) : Type 0 where
+  pub piece : Piece l at t l′ e
   pub left : length l < at + length t → (l′ ≡ l) × (e ≡ at)
 
 -- a buffer that held l holds l′: the n bytes of the text t, and then what it held

@@ -1,20 +1,19 @@
 -- The pieces of the row, one after the other.
-use native.Mathlib.Omega.{arith}
 use borrow.Author.Needs.{needs}
-use Rattle.job.specs.Text.{row}
-use Rattle.job.proofs.Writing.{next}
-use Rattle.job.proofs.text.put_row.Statement.{statement}
-use Rattle.job.proofs.text.put_row.Tie as tie
+use Rattle.text.proofs.Writing.{pieces, five}
+use Rattle.job.specs.Rows.{row}
+use Rattle.job.proofs.row.put_row.Statement.{statement}
+use Rattle.job.proofs.row.put_row.Tie as tie
 
 returns : tie.Need-returns
 unfolding row
 returns c =
-    let c₄ = c .before .before in
-    let c₃ = c₄ .before .before .before .before in
-    let c₂ = c₃ .before .before .before .before in
-    let c₁ = c₂ .before .before .before .before in
-    let c₀ = c₁ .before .before .before .before in
-    (next (next (next (next (c₀ .put-decimal .ensures .0) (c₁ .put-float .ensures .0)) (c₂ .put-float2 .ensures .0)) (c₃ .put-float3 .ensures .0)) (c₄ .put-byte .ensures .0), omega arith)
+    let at-end = c .before .before in
+    let at-bulge = at-end .before .before .before .before in
+    let at-y = at-bulge .before .before .before .before in
+    let at-x = at-y .before .before .before .before in
+    let at-position = at-x .before .before .before .before in
+    five pieces (at-position .put-decimal .ensures .piece) (at-x .put-float .ensures .piece) (at-y .put-float2 .ensures .piece) (at-bulge .put-float3 .ensures .piece) (at-end .put-byte .ensures .piece)
 
 pub put-row-spec : {M : Type 1} → statement M
 put-row-spec =
