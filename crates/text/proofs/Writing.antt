@@ -11,7 +11,7 @@ use native.Mathlib.Decide.{decLt}
 use native.Mathlib.Omega.{arith}
 use lib.ListN.{length, set, take, drop, length-append}
 use lib.Seq.{sets, sets-eq, length-sets, take-at}
-use Rattle.text.specs.Wrote.{Wrote, Piece, Put, Filled}
+use Rattle.text.specs.Wrote.{Wrote, Piece, Put, Begins, Filled}
 
 pub sets-append : (l : List ℕ) (i : ℕ) (t u : List ℕ) → sets (sets l i t) (i + length t) u ≡ sets l i (t ++ u)
 sets-append l i [] u = ap (λ (k : ℕ). sets l k u) (add-zero i)
@@ -146,9 +146,9 @@ filled {l} {l′} {t} {e} w h =
     let z = ap length (w .text) ∙ length-sets l 0 t in
     record { count = sym n; room = omega arith; holds = w .text ∙ sets-eq t l 0 (omega arith) ∙ ap (λ (m : ℕ). t ++ drop m l) z₀ }
 
--- and read back from there
-pub front-of : {l l′ t : List ℕ} {n : ℕ} → Filled t l l′ n → take n l′ ≡ t
-front-of {l} {l′} {t} {n} f = ap (take n) (f .holds) ∙ take-at t (drop n l) n (sym (f .count))
+-- which begins with it then
+pub begins : {l l′ t : List ℕ} {n : ℕ} → Filled t l l′ n → Begins t l′ n
+begins {l} {l′} {t} {n} f = record { room = f .room; is = ap (take n) (f .holds) ∙ take-at t (drop n l) n (sym (f .count)) }
 
 pub nothing : (l : List ℕ) → Filled [] l l 0
 nothing l = record { count = refl; room = omega arith; holds = refl }

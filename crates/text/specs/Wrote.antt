@@ -2,7 +2,7 @@
 use mathlib.Core.Path.{_≡_}
 use Prim.Native.Nat.{ℕ, _+_, _≤_, _<_}
 use mathlib.Core.List.{List, _++_}
-use lib.ListN.{length, drop}
+use lib.ListN.{length, take, drop}
 use lib.Seq.{sets}
 
 -- the buffer l, with the text t stored from `at` on, is l′, and the text ends at e
@@ -18,6 +18,11 @@ pub record Piece (l : List ℕ) (at : ℕ) (t : List ℕ) (l′ : List ℕ) (e :
 pub record Put (l : List ℕ) (at : ℕ) (t : List ℕ) (l′ : List ℕ) (e : ℕ) : Type 0 where
   pub piece : Piece l at t l′ e
   pub left : length l < at + length t → (l′ ≡ l) × (e ≡ at)
+
+-- the first n bytes of l are the text t
+pub record Begins (t l : List ℕ) (n : ℕ) : Type 0 where
+  pub room : n ≤ length l
+  pub is : take n l ≡ t
 
 -- a buffer that held l holds l′: the n bytes of the text t, and then what it held
 pub record Filled (t l l′ : List ℕ) (n : ℕ) : Type 0 where

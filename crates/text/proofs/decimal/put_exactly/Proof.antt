@@ -3,7 +3,7 @@ use mathlib.Core.Path.{sym}
 use native.Mathlib.Omega.{arith}
 use lib.Seq.{length-take-le}
 use borrow.Author.Needs.{needs}
-use Rattle.text.proofs.Writing.{filled, front-of, put-named}
+use Rattle.text.proofs.Writing.{filled, begins, put-named}
 use Rattle.text.proofs.decimal.put_exactly.Statement.{statement}
 use Rattle.text.proofs.decimal.put_exactly.Tie as tie
 
@@ -11,7 +11,7 @@ returns : tie.Need-returns
 returns c =
     let at-text = c .before .before in
     let at-any = at-text .before .before .before .before in
-    put-named (front-of (filled (at-any .put-any .ensures .0) (omega arith))) (at-text .put-text .ensures)
+    put-named (begins (filled (at-any .put-any .ensures .0) (omega arith)) .is) (at-text .put-text .ensures)
 
 pub put-exactly-spec : {M : Type 1} → statement M
 put-exactly-spec =

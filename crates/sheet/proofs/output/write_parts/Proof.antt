@@ -1,8 +1,8 @@
 -- Each turn writes one part.
 use Prim.Native.Nat.{_-_}
 use native.Mathlib.Omega.{arith}
-use Rattle.sheet.proofs.write_parts.Statement.{statement}
-use Rattle.sheet.proofs.write_parts.Tie as tie
+use Rattle.sheet.proofs.output.write_parts.Statement.{statement}
+use Rattle.sheet.proofs.output.write_parts.Tie as tie
 
 abbrev Inv-loop : tie.InvT-loop
 Inv-loop bytes outline parts list₀ text₀ k₀ list text k = Unit {0}
