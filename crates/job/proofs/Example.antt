@@ -13,7 +13,8 @@ use Rattle.view.specs.Record.{recordOk}
 use Rattle.view.specs.Segment.{onSegmentOf, onOutline}
 use Rattle.view.specs.Validation.{bulgesMatch, endVerdict, placedVerdict, countedVerdict, validateOf, markOf}
 use Rattle.job.specs.Bytes.{le16, le32, le64, floatAt}
-use Rattle.job.specs.Text.{hex, decimals, decimal, float, row, numbered}
+use Rattle.text.specs.Digits.{hex, decimals, decimal, float}
+use Rattle.job.specs.Rows.{row, numbered}
 use Rattle.job.specs.Header.{headerFits, headerOk}
 use Rattle.job.specs.Record.{recordOk as formOk}
 use Rattle.job.specs.Outline.{numbersIn}

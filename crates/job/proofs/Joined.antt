@@ -4,7 +4,7 @@ use mathlib.Core.List.{List, _++_, append-assoc, append-nil}
 use Prim.Native.Nat.{ℕ, zero, suc, _+_, _<_}
 use native.Mathlib.Omega.{arith}
 use Rattle.lists.specs.Plain.{tab}
-use Rattle.job.specs.Text.{numbered, joined}
+use Rattle.job.specs.Rows.{numbered, joined}
 
 pub joined-ext : (f g : ℕ → List ℕ) (n : ℕ) → ((k : ℕ) → k < n → f k ≡ g k) → joined f n ≡ joined g n
 unfolding joined

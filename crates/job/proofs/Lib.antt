@@ -1,9 +1,7 @@
 -- The theorems: Whole, Records, Viewing, Same, Example. Sheets has what the program uses.
 mod Tests
 mod Replies
-mod Writing
-mod Digits
-mod Spread
+mod Lengths
 mod Joined
 mod Fill
 mod Boxes

@@ -1,20 +1,38 @@
 -- Each part of a sheet's text, by its header at hand.
-use mathlib.Core.Path.{_≡_, sym, ap}
+use mathlib.Core.Path.{_≡_, sym, ap, subst}
 use mathlib.Core.Bool.{true, false}
 use mathlib.Core.List.{List, []}
 use Prim.Native.Nat.{ℕ, _+_, _-_, _≤_, _<_}
 use native.Mathlib.Omega.{arith}
+use lib.ListN.{length}
 use lib.Ieee.{Float}
-use borrow.Author.Tests.{eq-eqb, ne-eqb, lt-ltb, le-ltb}
+use borrow.Author.Tests.{lt-ltb, le-ltb}
+use Rattle.text.specs.Wrote.{Filled}
+use Rattle.text.proofs.Writing.{no-piece, filled}
 use Rattle.job.specs.declared.header.Header.{Header}
 use Rattle.job.specs.Header.{headerOf, headerOk, closed, fast, Headed}
-use Rattle.job.specs.Record.{recordOf}
 use Rattle.job.specs.Outline.{vertexIn}
 use Rattle.job.specs.Extent.{boxTo, lastSegment}
-use Rattle.job.specs.Sheet.{views, recordPlace}
-use Rattle.job.specs.Lines.{outlineLine, noBoxLine, boundsLine}
-use Rattle.job.specs.Views.{viewText, viewBuffer}
-use Rattle.job.specs.Parts.{boxLine, boxPart, partText, partBuffer}
+use Rattle.job.specs.Sheet.{views}
+use Rattle.job.specs.Lines.{noBoxLine, boundsLine}
+use Rattle.job.specs.Views.{partBytes, Part}
+use Rattle.job.specs.Parts.{boxLine, frontPart, viewPart, partText, viewBufferOf, partBuffer}
+
+pub named-part : {l l′ t u : List ℕ} {n : ℕ} → t ≡ u → Part l t l′ n → Part l u l′ n
+named-part {l} {l′} {n = n} e p = subst (λ (t : List ℕ). Part l t l′ n) e p
+
+pub empty-part : (l : List ℕ) → Part l [] l 0
+empty-part l = record { piece = no-piece l 0; short = omega arith }
+
+-- in a buffer that has room for any part
+pub part-filled : {l l′ t : List ℕ} {n : ℕ} → Part l t l′ n → partBytes ≤ length l → Filled t l l′ n
+part-filled {l} {l′} {t} {n} p h =
+    let s = p .short in
+    let w = p .piece .wrote (omega arith) in
+    let e = w .end in
+    filled w (omega arith)
+
+-- ---- which part
 
 module _ (b : List ℕ) (s l : List Float) (k : ℕ) where
   pub no-part : headerOk b ≡ false → ([] ≡ partText b s k) × (l ≡ partBuffer b s k l)
@@ -26,27 +44,15 @@ module _ (b : List ℕ) (s l : List Float) (k : ℕ) where
     unfolding partText partBuffer
     past-part h = (simp (ok, le-ltb k (views b + 2) h), simp (ok, le-ltb k (views b + 2) h))
 
-    pub outline-part : k ≡ 0 → (outlineLine (headerOf b .vertices) (views b) (closed (headerOf b)) ≡ partText b s k) × (l ≡ partBuffer b s k l)
+    pub front-part : k < 2 → (frontPart b k ≡ partText b s k) × (l ≡ partBuffer b s k l)
     unfolding partText partBuffer
-    outline-part z =
+    front-part z =
         let h : k < views b + 2 = omega arith in
-        (simp (ok, lt-ltb k (views b + 2) h, eq-eqb k 0 z), simp (ok, lt-ltb k (views b + 2) h, lt-ltb k 2 (omega arith)))
+        (simp (ok, lt-ltb k (views b + 2) h, lt-ltb k 2 z), simp (ok, lt-ltb k (views b + 2) h, lt-ltb k 2 z))
 
-    pub box-part : k ≡ 1 → (boxPart b ≡ partText b s k) × (l ≡ partBuffer b s k l)
+    pub view-part : 2 ≤ k → k < views b + 2 → (viewPart b s (k - 2) ≡ partText b s k) × (viewBufferOf b s (k - 2) l ≡ partBuffer b s k l)
     unfolding partText partBuffer
-    box-part z =
-        let h : k < views b + 2 = omega arith in
-        let n : k ≡ 0 → ⊥ = λ q. absurd (omega arith) in
-        (simp (ok, lt-ltb k (views b + 2) h, ne-eqb k 0 n, eq-eqb k 1 z), simp (ok, lt-ltb k (views b + 2) h, lt-ltb k 2 (omega arith)))
-
-    pub view-part : 2 ≤ k → k < views b + 2
-        → (viewText (closed (headerOf b)) s (k - 2) (recordOf b (recordPlace b (k - 2))) ≡ partText b s k)
-        × (viewBuffer (closed (headerOf b)) s (recordOf b (recordPlace b (k - 2))) l ≡ partBuffer b s k l)
-    unfolding partText partBuffer
-    view-part z h =
-        let n : k ≡ 0 → ⊥ = λ q. absurd (omega arith) in
-        let m : k ≡ 1 → ⊥ = λ q. absurd (omega arith) in
-        (simp (ok, lt-ltb k (views b + 2) h, ne-eqb k 0 n, ne-eqb k 1 m), simp (ok, lt-ltb k (views b + 2) h, le-ltb k 2 z))
+    view-part z h = (simp (ok, lt-ltb k (views b + 2) h, le-ltb k 2 z), simp (ok, lt-ltb k (views b + 2) h, le-ltb k 2 z))
 
 -- ---- the box line
 

@@ -17,7 +17,7 @@ use Rattle.view.specs.Answers.{written, listBuffer, bufferAfter}
 use Rattle.view.specs.Validation.{Verdict, validateOf, MarkCase, cut, markOf, markAnswer}
 use Rattle.view.specs.declared.view_data.PlineViewData.{PlineViewData}
 use Rattle.view.proofs.Cut.{cut-says, cut-clear, cut-lists as lists}
-use Rattle.job.specs.Text.{row, numbered, rows}
+use Rattle.job.specs.Rows.{row, numbered, rows}
 use Rattle.job.specs.Lines.{refusedLine, viewHead}
 use Rattle.job.specs.Views.{markText, verdictText, viewText, markBuffer, verdictBuffer, viewBuffer, listNumbers, Lists}
 use Rattle.job.proofs.Joined.{joined-ext, numbered-joined}

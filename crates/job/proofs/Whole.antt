@@ -11,15 +11,15 @@ use Rattle.real.specs.Reply.{refused, given}
 use Rattle.job.specs.declared.sheet.Opened.{Opened}
 use Rattle.job.specs.Header.{headerOf, headerOk, closed}
 use Rattle.job.specs.Record.{recordOf}
-use Rattle.job.specs.Text.{numbered, joined}
+use Rattle.job.specs.Rows.{numbered, joined}
 use Rattle.job.specs.Sheet.{views, outlineOf, recordPlace, recordsOf, recordsOk, verticesOk, sheetOf, openOf, openBuffer}
 use Rattle.job.specs.Lines.{refusedLine}
 use Rattle.job.specs.Views.{viewText}
-use Rattle.job.specs.Parts.{boxLine, wholeText, answerText, sheetText, boxPart, partText}
+use Rattle.job.specs.Parts.{boxLine, wholeText, answerText, sheetText, boxPart, frontPart, viewPart, partText}
 use Rattle.job.proofs.Joined.{joined-ext, joined-first, numbered-joined}
 use Rattle.job.proofs.Replies.{never-given, refused-alike}
 use Rattle.job.proofs.Sheets.{Accepted, accepted-rest, opened-accepted, opened-is, opened-outline}
-use Rattle.job.proofs.Parting.{outline-part, box-part, view-part}
+use Rattle.job.proofs.Parting.{front-part, view-part}
 
 module _ (b : List ℕ) (a : Accepted b) where
   abbrev part : ℕ → List ℕ
@@ -33,7 +33,7 @@ module _ (b : List ℕ) (a : Accepted b) where
   box-is = simp (a .vertices)
 
   views-are : joined (λ k. part (suc (suc k))) (views b) ≡ numbered (viewText (closed (headerOf b)) (outlineOf b)) 0 (recordsOf b)
-  unfolding recordsOf
+  unfolding recordsOf viewPart
   views-are =
       joined-ext _ view (views b) (λ k h.
       let e : suc (suc k) - 2 ≡ k = omega arith in
@@ -41,13 +41,13 @@ module _ (b : List ℕ) (a : Accepted b) where
       ∙ sym (numbered-joined (viewText (closed (headerOf b)) (outlineOf b)) (λ k. recordOf b (recordPlace b k)) (views b))
 
   whole : joined part (views b + 2) ≡ wholeText b
-  unfolding wholeText
+  unfolding wholeText frontPart
   whole =
       ap (joined part) (add-two (views b)) ∙ joined-first part (suc (views b))
       ∙ ap (λ (t : List ℕ). part 0 ++ t) (joined-first (λ k. part (suc k)) (views b))
       ∙ sym (append-assoc (part 0) (part 1) (joined (λ k. part (suc (suc k))) (views b)))
       ∙ ap₂ (λ (t u : List ℕ). t ++ u)
-      (ap₂ (λ (t u : List ℕ). t ++ u) (sym (outline-part b (outlineOf b) (outlineOf b) 0 (a .header) refl .0)) (sym (box-part b (outlineOf b) (outlineOf b) 1 (a .header) refl .0) ∙ box-is))
+      (ap₂ (λ (t u : List ℕ). t ++ u) (sym (front-part b (outlineOf b) (outlineOf b) 0 (a .header) (omega arith) .0)) (sym (front-part b (outlineOf b) (outlineOf b) 1 (a .header) (omega arith) .0) ∙ box-is))
       views-are
 
 -- a sheet that opens: its parts, over the outline that opening it left in any buffer l

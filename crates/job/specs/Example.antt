@@ -2,7 +2,7 @@
 -- forward", and "All of its output".
 use Prim.Native.Nat.{ℕ}
 use mathlib.Core.List.{List, [], _∷_, _++_}
-use Rattle.job.specs.Ascii.{ascii}
+use Rattle.text.specs.Ascii.{ascii}
 
 -- the f64 0 and 1
 abbrev nought : List ℕ

@@ -5,8 +5,8 @@ use mathlib.Core.List.{List, _++_}
 use lib.Ieee.{Float}
 use Rattle.seg.specs.declared.bounds.Bounds.{Bounds}
 use Rattle.view.specs.Validation.{MarkCase, cut, hold}
-use Rattle.job.specs.Ascii.{ascii}
-use Rattle.job.specs.Text.{decimal, float}
+use Rattle.text.specs.Ascii.{ascii}
+use Rattle.text.specs.Digits.{decimal, float}
 
 -- "a refused sheet only `refused N`"
 unfoldable pub refusedLine : ℕ → List ℕ

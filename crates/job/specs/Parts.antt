@@ -10,7 +10,7 @@ use Rattle.job.specs.Record.{recordOf}
 use Rattle.job.specs.Outline.{vertexIn}
 use Rattle.job.specs.Extent.{boxTo, lastSegment}
 use Rattle.job.specs.Sheet.{views, outlineOf, recordPlace, recordsOf, verticesOk, sheetOf}
-use Rattle.job.specs.Text.{numbered}
+use Rattle.job.specs.Rows.{numbered}
 use Rattle.job.specs.Lines.{refusedLine, outlineLine, boundsLine, noBoxLine}
 use Rattle.job.specs.Views.{viewText, viewBuffer}
 
@@ -41,18 +41,20 @@ sheetText b = answerText (sheetOf b (given (wholeText b)))
 unfoldable pub boxPart : List ℕ → List ℕ
 boxPart b = cond (verticesOk b) (boxLine b) []
 
-unfoldable pub partText : List ℕ → List Float → ℕ → List ℕ
-partText b s k =
+unfoldable pub frontPart : List ℕ → ℕ → List ℕ
+frontPart b k =
     let h = headerOf b in
-    cond (headerOk b && ltb k (h .views + 2))
-    (cond (eqb k 0) (outlineLine (h .vertices) (h .views) (closed h))
-    (cond (eqb k 1) (boxPart b)
-    (viewText (closed h) s (k - 2) (recordOf b (recordPlace b (k - 2))))))
-    []
+    cond (eqb k 0) (outlineLine (h .vertices) (h .views) (closed h)) (boxPart b)
+
+unfoldable pub viewPart : List ℕ → List Float → ℕ → List ℕ
+viewPart b s k = viewText (closed (headerOf b)) s k (recordOf b (recordPlace b k))
+
+unfoldable pub partText : List ℕ → List Float → ℕ → List ℕ
+partText b s k = cond (headerOk b && ltb k (views b + 2)) (cond (ltb k 2) (frontPart b k) (viewPart b s (k - 2))) []
 
 -- the buffer in which a cut view is listed
+unfoldable pub viewBufferOf : List ℕ → List Float → ℕ → List Float → List Float
+viewBufferOf b s k l = viewBuffer (closed (headerOf b)) s (recordOf b (recordPlace b k)) l
+
 unfoldable pub partBuffer : List ℕ → List Float → ℕ → List Float → List Float
-partBuffer b s k l =
-    cond (headerOk b && ltb k (views b + 2))
-    (cond (ltb k 2) l (viewBuffer (closed (headerOf b)) s (recordOf b (recordPlace b (k - 2))) l))
-    l
+partBuffer b s k l = cond (headerOk b && ltb k (views b + 2)) (cond (ltb k 2) l (viewBufferOf b s (k - 2) l)) l

@@ -3,6 +3,7 @@ use mathlib.Core.Path.{_≡_}
 use Prim.Native.Nat.{ℕ, _+_, _*_, _≤_}
 use mathlib.Core.Bool.{Bool}
 use mathlib.Core.List.{List, _++_}
+use lib.ListN.{length}
 use lib.Ieee.{Float}
 use Rattle.real.specs.Reply.{Reply, refused, given}
 use Rattle.plane.specs.Grade.{double}
@@ -11,7 +12,8 @@ use Rattle.view.specs.Record.{vertices, listed}
 use Rattle.view.specs.Answers.{listOf, written}
 use Rattle.view.specs.Validation.{Verdict, validateOf, MarkCase, cut, hold, markOf}
 use Rattle.view.specs.declared.view_data.PlineViewData.{PlineViewData}
-use Rattle.job.specs.Text.{row, rowBytes, numbered}
+use Rattle.job.specs.Rows.{row, rowBytes, numbered}
+use Rattle.text.specs.Wrote.{Piece}
 use Rattle.job.specs.Lines.{refusedLine, viewHead, viewLine}
 
 -- "view number, verdict, cut or hold, count; position, x, y, bulge"; "A hold view prints count 0 and no vertices."
@@ -49,7 +51,12 @@ listNumbers = 3 * (mostVertices + 2)
 abbrev pub partBytes : ℕ
 partBytes = 100 + rowBytes * (mostVertices + 2)
 
--- what the inner functions ask of a cut view: into a buffer of m numbers it lists without refusal
+-- what the inner functions promise of a part: its text t stands at the start of a buffer with room for it, and is no longer than any part
+pub record Part (l t l′ : List ℕ) (n : ℕ) : Type 0 where
+  pub piece : Piece l 0 t l′ n
+  pub short : length t ≤ partBytes
+
+-- what they ask of a cut view: into a buffer of m numbers it lists without refusal
 pub record Lists (s : List Float) (d : PlineViewData) (m : ℕ) : Type 0 where
   pub list : listOf double s d m ≡ given (vertices d)
   pub few : d .«end_index_offset» ≤ mostVertices

@@ -6,9 +6,9 @@ mod line;
 mod outline;
 mod part;
 mod record;
+mod row;
 mod sheet;
 mod size;
-mod text;
 
 pub use part::refused_sheet;
 pub use part::sheet_part;

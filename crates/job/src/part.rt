@@ -13,9 +13,9 @@ use crate::line::put_refused_view;
 use crate::line::put_view_line;
 use crate::outline::vertices_are_sound;
 use crate::record::record_of;
+use crate::row::put_rows;
 use crate::size::LIST_NUMBERS;
 use crate::size::PART_BYTES;
-use crate::text::put_rows;
 use view::Mark;
 use view::PlineViewData;
 use view::ValidationAnswer;
@@ -27,7 +27,7 @@ ghost use Rattle.real.specs.Reply.{given};
 ghost use Rattle.plane.specs.Grade.{double};
 ghost use Rattle.view.specs.Answers.{written};
 ghost use Rattle.view.specs.Validation.{cut, verdictOf, validateOf};
-ghost use Rattle.job.specs.Wrote.{Wrote, Filled};
+ghost use Rattle.text.specs.Wrote.{Filled};
 ghost use Rattle.job.specs.Header.{Headed};
 ghost use Rattle.job.specs.Extent.{lastSegment};
 ghost use Rattle.job.specs.Lines.{refusedLine};
@@ -44,8 +44,8 @@ fn last_segment(closed: bool, n: usize) -> usize
 
 // The box line.
 fn put_extent(bytes: &[u8], h: Header, out: &mut [u8]) -> usize
-    requires { ⌜ (Headed (now bytes) h) × (72 ≤ length (now out)) ⌝ }
-    ensures { λ r. ⌜ (Wrote (now (out .entry)) 0 (spec.boxPart (now (bytes .entry))) (now (out .exit)) r) × (r ≤ 72) ⌝ }
+    requires { ⌜ Headed (now bytes) h ⌝ }
+    ensures { λ r. ⌜ views.Part (now (out .entry)) (spec.boxPart (now (bytes .entry))) (now (out .exit)) r ⌝ }
 {
     let n = h.vertices;
     if !vertices_are_sound(bytes, n) {
@@ -58,6 +58,17 @@ fn put_extent(bytes: &[u8], h: Header, out: &mut [u8]) -> usize
     put_box(out, outline_box(bytes, n, last, is_fast(h)))
 }
 
+// The outline's line, or the box line.
+fn put_front(bytes: &[u8], h: Header, k: usize, out: &mut [u8]) -> usize
+    requires { ⌜ Headed (now bytes) h ⌝ }
+    ensures { λ r. ⌜ views.Part (now (out .entry)) (spec.frontPart (now (bytes .entry)) k) (now (out .exit)) r ⌝ }
+{
+    if k == 0 {
+        return put_outline(out, h.vertices, h.views, is_closed(h));
+    }
+    put_extent(bytes, h, out)
+}
+
 // The line and the rows of a cut view, which lists without refusal.
 fn put_cut(
     outline: &[f64],
@@ -67,8 +78,8 @@ fn put_cut(
     list: &mut [f64],
     out: &mut [u8],
 ) -> usize
-    requires { ⌜ (k < 10000) × (number < 10000) × (views.Lists (now outline) d (length (now list))) × (views.partBytes ≤ length (now out)) ⌝ }
-    ensures { λ r. ⌜ (Wrote (now (out .entry)) 0 (views.markText (now (outline .entry)) d k number cut) (now (out .exit)) r) × (r ≤ views.partBytes) × (now (list .exit) ≡ written double (now (outline .entry)) d (now (list .entry))) ⌝ }
+    requires { ⌜ (k < 10000) × (number < 10000) × (views.Lists (now outline) d (length (now list))) ⌝ }
+    ensures { λ r. ⌜ (views.Part (now (out .entry)) (views.markText (now (outline .entry)) d k number cut) (now (out .exit)) r) × (now (list .exit) ≡ written double (now (outline .entry)) d (now (list .entry))) ⌝ }
 {
     d.list(outline, list);
     let count = d.end_index_offset + 2;
@@ -86,8 +97,8 @@ fn put_marked(
     list: &mut [f64],
     out: &mut [u8],
 ) -> usize
-    requires { ⌜ (k < 10000) × (length (now list) ≡ views.listNumbers) × (views.partBytes ≤ length (now out)) × (validateOf double (double .line) (now outline) d ≡ given (verdictOf verdict)) ⌝ }
-    ensures { λ r. ⌜ (Wrote (now (out .entry)) 0 (views.viewText closed (now (outline .entry)) k d) (now (out .exit)) r) × (r ≤ views.partBytes) × (now (list .exit) ≡ views.viewBuffer closed (now (outline .entry)) d (now (list .entry))) ⌝ }
+    requires { ⌜ (k < 10000) × (length (now list) ≡ views.listNumbers) × (validateOf double (double .line) (now outline) d ≡ given (verdictOf verdict)) ⌝ }
+    ensures { λ r. ⌜ (views.Part (now (out .entry)) (views.viewText closed (now (outline .entry)) k d) (now (out .exit)) r) × (now (list .exit) ≡ views.viewBuffer closed (now (outline .entry)) d (now (list .entry))) ⌝ }
 {
     let number = verdict.number() as usize;
     let mark = verdict.mark(closed);
@@ -106,14 +117,30 @@ fn put_view(
     list: &mut [f64],
     out: &mut [u8],
 ) -> usize
-    requires { ⌜ (k < 10000) × (length (now list) ≡ views.listNumbers) × (views.partBytes ≤ length (now out)) ⌝ }
-    ensures { λ r. ⌜ (Wrote (now (out .entry)) 0 (views.viewText closed (now (outline .entry)) k d) (now (out .exit)) r) × (r ≤ views.partBytes) × (now (list .exit) ≡ views.viewBuffer closed (now (outline .entry)) d (now (list .entry))) ⌝ }
+    requires { ⌜ (k < 10000) × (length (now list) ≡ views.listNumbers) ⌝ }
+    ensures { λ r. ⌜ (views.Part (now (out .entry)) (views.viewText closed (now (outline .entry)) k d) (now (out .exit)) r) × (now (list .exit) ≡ views.viewBuffer closed (now (outline .entry)) d (now (list .entry))) ⌝ }
 {
     let answer = d.validate_for_source(outline);
     match answer {
         ValidationAnswer::Refused(number) => put_refused_view(out, k, number as usize),
         ValidationAnswer::Given(verdict) => put_marked(outline, d, k, verdict, closed, list, out),
     }
+}
+
+// View k of a sheet with the header h.
+fn put_view_of(
+    bytes: &[u8],
+    h: Header,
+    outline: &[f64],
+    k: usize,
+    list: &mut [f64],
+    out: &mut [u8],
+) -> usize
+    requires { ⌜ (Headed (now bytes) h) × (k < h .views) × (length (now list) ≡ views.listNumbers) ⌝ }
+    ensures { λ r. ⌜ (views.Part (now (out .entry)) (spec.viewPart (now (bytes .entry)) (now (outline .entry)) k) (now (out .exit)) r) × (now (list .exit) ≡ spec.viewBufferOf (now (bytes .entry)) (now (outline .entry)) k (now (list .entry))) ⌝ }
+{
+    let d = record_of(bytes, 16 + 24 * h.vertices + 64 * k);
+    put_view(outline, d, k, is_closed(h), list, out)
 }
 
 // Part k of a sheet with the header h.
@@ -125,21 +152,16 @@ fn put_part(
     list: &mut [f64],
     out: &mut [u8],
 ) -> usize
-    requires { ⌜ (Headed (now bytes) h) × (length (now list) ≡ views.listNumbers) × (views.partBytes ≤ length (now out)) ⌝ }
-    ensures { λ r. ⌜ (Wrote (now (out .entry)) 0 (spec.partText (now (bytes .entry)) (now (outline .entry)) k) (now (out .exit)) r) × (r ≤ views.partBytes) × (now (list .exit) ≡ spec.partBuffer (now (bytes .entry)) (now (outline .entry)) k (now (list .entry))) ⌝ }
+    requires { ⌜ (Headed (now bytes) h) × (length (now list) ≡ views.listNumbers) ⌝ }
+    ensures { λ r. ⌜ (views.Part (now (out .entry)) (spec.partText (now (bytes .entry)) (now (outline .entry)) k) (now (out .exit)) r) × (now (list .exit) ≡ spec.partBuffer (now (bytes .entry)) (now (outline .entry)) k (now (list .entry))) ⌝ }
 {
     if k >= h.views + 2 {
         return 0;
     }
-    let closed = is_closed(h);
-    if k == 0 {
-        return put_outline(out, h.vertices, h.views, closed);
+    if k < 2 {
+        return put_front(bytes, h, k, out);
     }
-    if k == 1 {
-        return put_extent(bytes, h, out);
-    }
-    let d = record_of(bytes, 16 + 24 * h.vertices + 64 * (k - 2));
-    put_view(outline, d, k - 2, closed, list, out)
+    put_view_of(bytes, h, outline, k - 2, list, out)
 }
 
 // Part k of a sheet's text, over the outline that opening the sheet gave, from the buffer's start: how many bytes. A cut

@@ -13,7 +13,7 @@ ghost use mathlib.Core.Path.{_≡_};
 ghost use Prim.Native.Nat.{_+_, _*_, _≤_};
 ghost use lib.ListN.{length};
 ghost use Rattle.view.specs.Outline.{all};
-ghost use Rattle.job.specs.Wrote.{Wrote};
+ghost use Rattle.text.specs.Wrote.{Wrote};
 ghost use Rattle.job.specs.Record as spec;
 
 // Whether a record's direction is 0 or 1 and its reserved bytes are 0.

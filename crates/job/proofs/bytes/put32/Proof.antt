@@ -4,7 +4,7 @@ use native.Mathlib.Omega.{arith}
 use lib.ListN.{length-set}
 use borrow.Author.Needs.{needs}
 use Rattle.job.specs.Bytes.{bytes4}
-use Rattle.job.proofs.Writing.{four}
+use Rattle.text.proofs.Writing.{four}
 use Rattle.job.proofs.bytes.put32.Statement.{statement}
 use Rattle.job.proofs.bytes.put32.Tie as tie
 

@@ -3,8 +3,8 @@ use mathlib.Core.Path.{ap}
 use native.Mathlib.Omega.{arith}
 use borrow.Author.Needs.{needs}
 use Rattle.job.specs.Bytes.{bytes8, floatBytes}
-use Rattle.job.proofs.Writing.{named}
-use Rattle.job.proofs.Writing.{writes}
+use Rattle.text.proofs.Writing.{named}
+use Rattle.text.proofs.Writing.{writes}
 use Rattle.job.proofs.bytes.put_pattern.Statement.{statement}
 use Rattle.job.proofs.bytes.put_pattern.Tie as tie
 

@@ -1,19 +1,18 @@
 -- The pieces of the line, one after the other.
-use native.Mathlib.Omega.{arith}
 use borrow.Author.Needs.{needs}
+use Rattle.text.proofs.Writing.{then, pieces, three}
 use Rattle.job.specs.Lines.{boundsLine}
-use Rattle.job.proofs.Writing.{next}
 use Rattle.job.proofs.line.put_box.Statement.{statement}
 use Rattle.job.proofs.line.put_box.Tie as tie
 
 returns : tie.Need-returns
 unfolding boundsLine
 returns c =
-    let c₃ = c .before .before in
-    let c₂ = c₃ .before .before .before .before in
-    let c₁ = c₂ .before .before .before .before in
-    let c₀ = c₁ .before .before .before .before in
-    (next (next (next (c₀ .put-text .ensures) (c₁ .put-floats .ensures .0)) (c₂ .put-floats2 .ensures .0)) (c₃ .put-byte .ensures .0), omega (arith, c₀ .put-text .ensures .end))
+    let at-end = c .before .before in
+    let at-greatest = at-end .before .before .before .before in
+    let at-least = at-greatest .before .before .before .before in
+    let at-word = at-least .before .before .before .before in
+    then (three pieces (at-word .put-text .ensures .piece) (at-least .put-floats .ensures) (at-greatest .put-floats2 .ensures)) (at-end .put-byte .ensures .piece)
 
 pub put-box-spec : {M : Type 1} → statement M
 put-box-spec =

@@ -1,20 +1,19 @@
 -- The pieces of the line, one after the other.
-use native.Mathlib.Omega.{arith}
 use borrow.Author.Needs.{needs}
+use Rattle.text.proofs.Writing.{pieces, five}
 use Rattle.job.specs.Lines.{outlineLine}
-use Rattle.job.proofs.Writing.{next}
 use Rattle.job.proofs.line.put_outline.Statement.{statement}
 use Rattle.job.proofs.line.put_outline.Tie as tie
 
 returns : tie.Need-returns
 unfolding outlineLine
 returns c =
-    let c₄ = c .before .before in
-    let c₃ = c₄ .before .before .before .before in
-    let c₂ = c₃ .before .before .before .before in
-    let c₁ = c₂ .before .before .before .before in
-    let c₀ = c₁ .before .before .before .before in
-    (next (next (next (next (c₀ .put-text .ensures) (c₁ .put-decimal .ensures .0)) (c₂ .put-byte .ensures .0)) (c₃ .put-decimal2 .ensures .0)) (c₄ .put-closed .ensures .0), omega (arith, c₀ .put-text .ensures .end))
+    let at-end = c .before .before in
+    let at-views = at-end .before .before .before .before in
+    let at-space = at-views .before .before .before .before in
+    let at-vertices = at-space .before .before .before .before in
+    let at-word = at-vertices .before .before .before .before in
+    five pieces (at-word .put-text .ensures .piece) (at-vertices .put-decimal .ensures .piece) (at-space .put-byte .ensures .piece) (at-views .put-decimal2 .ensures .piece) (at-end .put-closed .ensures .piece)
 
 pub put-outline-spec : {M : Type 1} → statement M
 put-outline-spec =

@@ -1,20 +1,19 @@
 -- The pieces of the line, one after the other.
-use native.Mathlib.Omega.{arith}
 use borrow.Author.Needs.{needs}
+use Rattle.text.proofs.Writing.{pieces, five}
 use Rattle.job.specs.Lines.{viewLine}
-use Rattle.job.proofs.Writing.{next}
 use Rattle.job.proofs.line.put_view_line.Statement.{statement}
 use Rattle.job.proofs.line.put_view_line.Tie as tie
 
 returns : tie.Need-returns
 unfolding viewLine
 returns c =
-    let c₄ = c .before .before in
-    let c₃ = c₄ .before .before .before .before in
-    let c₂ = c₃ .before .before .before .before in
-    let c₁ = c₂ .before .before .before .before in
-    let c₀ = c₁ .before .before .before .before in
-    (next (next (next (next (c₀ .put-head .ensures .0) (c₁ .put-decimal .ensures .0)) (c₂ .put-mark .ensures .0)) (c₃ .put-decimal2 .ensures .0)) (c₄ .put-byte .ensures .0), omega arith)
+    let at-end = c .before .before in
+    let at-count = at-end .before .before .before .before in
+    let at-mark = at-count .before .before .before .before in
+    let at-verdict = at-mark .before .before .before .before in
+    let at-head = at-verdict .before .before .before .before in
+    five pieces (at-head .put-head .ensures) (at-verdict .put-decimal .ensures .piece) (at-mark .put-mark .ensures .piece) (at-count .put-decimal2 .ensures .piece) (at-end .put-byte .ensures .piece)
 
 pub put-view-line-spec : {M : Type 1} → statement M
 put-view-line-spec =

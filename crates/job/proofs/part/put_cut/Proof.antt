@@ -8,29 +8,32 @@ use borrow.Author.Needs.{needs}
 use denote.Ref.{now}
 use Rattle.view.specs.Record.{vertices}
 use Rattle.view.specs.Validation.{cut}
-use Rattle.job.specs.Text.{rows}
+use Rattle.text.proofs.Writing.{then}
+use Rattle.job.specs.Rows.{rows}
 use Rattle.job.specs.Lines.{viewLine}
 use Rattle.job.specs.Views.{markText}
-use Rattle.job.proofs.Writing.{next, named}
+use Rattle.job.proofs.Lengths.{cut-length}
 use Rattle.job.proofs.Viewing.{list-written, list-rows}
+use Rattle.job.proofs.Parting.{named-part}
 use Rattle.job.proofs.part.put_cut.Statement.{statement}
 use Rattle.job.proofs.part.put_cut.Tie as tie
 
 returns : tie.Need-returns
 unfolding markText
 returns c =
-    let r = c .before .before in
-    let v = r .before .before .before .before .before in
-    let m = v .before .before .before .before .before in
-    let o = m .before .before .before .before .before in
+    let at-rows = c .before .before in
+    let at-line = at-rows .before .before .before .before .before in
+    let at-list = at-line .before .before .before .before .before in
+    let o = at-list .before .before .before .before .before in
     let a = o .args in
     let s = now (a .outline) in
     let l = now (a .list) in
-    let e = m .list .ensures .1 ∙ list-written s (a .d) l (o .pre .2) in
-    let t = viewLine (a .k) (a .number) cut (vertices (a .d)) in (
-      named (ap (λ (u : List Float). t ++ rows u (vertices (a .d))) e ∙ ap (λ (u : List ℕ). t ++ u) (list-rows s (a .d) l)) (next (v .put-view-line .ensures .0) (r .put-rows .ensures .0)),
-      omega (arith, v .put-view-line .ensures .1, r .put-rows .ensures .1, o .pre .2 .few),
-      e,
+    let n = vertices (a .d) in
+    let listed = at-list .list .ensures .1 ∙ list-written s (a .d) l (o .pre .2) in
+    let t = viewLine (a .k) (a .number) cut n in (
+      named-part (ap (λ (u : List Float). t ++ rows u n) listed ∙ ap (λ (u : List ℕ). t ++ u) (list-rows s (a .d) l))
+          (record { piece = then (at-line .put-view-line .ensures) (at-rows .put-rows .ensures); short = cut-length (a .k) (a .number) n _ (o .pre .0) (o .pre .1) (omega (arith, o .pre .2 .few)) }),
+      listed,
     )
 
 pub put-cut-spec : {M : Type 1} → statement M

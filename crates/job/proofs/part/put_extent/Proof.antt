@@ -10,46 +10,58 @@ use Rattle.job.specs.Outline.{vertexIn}
 use Rattle.job.specs.Extent.{boxTo, lastSegment}
 use Rattle.job.specs.Lines.{boundsLine}
 use Rattle.job.specs.Parts.{boxPart}
-use Rattle.job.proofs.Writing.{named, none}
+use Rattle.job.proofs.Lengths.{bounds-length}
 use Rattle.job.proofs.Sheets.{vertices-by}
-use Rattle.job.proofs.Parting.{no-box, some-box}
+use Rattle.job.proofs.Parting.{named-part, empty-part, no-box, some-box}
 use Rattle.job.proofs.part.put_extent.Statement.{statement}
 use Rattle.job.proofs.part.put_extent.Tie as tie
 
 returns : tie.Need-returns
 unfolding boxPart
 returns c =
-    let o = c .before .before .before .before in
-    let e = failed (c .before .vertices-are-sound .ensures ∙ vertices-by _ (o .args .h) (o .pre .0)) (c .if1 .taken) in
-    (named (simp e) (none _ 0), omega arith)
+    let at-checked = c .before in
+    let o = at-checked .before .before .before in
+    let e = failed (at-checked .vertices-are-sound .ensures ∙ vertices-by _ (o .args .h) (o .pre)) (c .if1 .taken) in
+    named-part (simp e) (empty-part _)
 
 returns-2 : tie.Need-returns-2
 unfolding boxPart
 returns-2 c =
-    let p = c .before .before in
-    let i = p .before .before .before in
-    let o = c .before .before .before .before .before .before .before .before .before in
-    let e = passed (i .before .vertices-are-sound .ensures ∙ vertices-by _ (o .args .h) (o .pre .0)) (i .if1 .left) in
-    (named (simp e (no-box _ (o .args .h) (o .pre .0) (omega arith))) (p .put-no-box .ensures .0), omega arith)
+    let at-none = c .before .before in
+    let at-few = at-none .before .before in
+    let at-sound = at-few .before in
+    let at-checked = at-sound .before in
+    let o = at-checked .before .before .before in
+    let e = passed (at-checked .vertices-are-sound .ensures ∙ vertices-by _ (o .args .h) (o .pre)) (at-sound .if1 .left) in
+    named-part (simp e (no-box _ (o .args .h) (o .pre) (at-few .if2 .taken))) (record { piece = at-none .put-no-box .ensures .piece; short = omega arith })
 
 outline-box-requires : tie.Need-outline-box-requires
 outline-box-requires c κs =
-    let i = c .before .before .before .before .before in
-    let o = c .before .before .before .before .before .before .before .before .before in
-    (record { room = omega (arith, o .pre .0 .size); each = passed (i .before .vertices-are-sound .ensures) (i .if1 .left) }, c .before .before .last-segment .ensures .1)
+    let at-last = c .before .before in
+    let at-sound = at-last .before .before .before in
+    let at-checked = at-sound .before in
+    let o = at-checked .before .before .before in
+    (record { room = omega (arith, o .pre .size); each = passed (at-checked .vertices-are-sound .ensures) (at-sound .if1 .left) }, at-last .last-segment .ensures .1)
 
 returns-3 : tie.Need-returns-3
 unfolding boxPart
 returns-3 c =
-    let p = c .before .before in
-    let i = c .before .before .before .before .before .before .before .before .before in
-    let o = c .before .before .before .before .before .before .before .before .before .before .before .before .before in
+    let at-box = c .before .before in
+    let at-outline-box = at-box .before in
+    let at-fast = at-outline-box .before in
+    let at-last = at-fast .before .before in
+    let at-closed = at-last .before in
+    let at-many = at-closed .before in
+    let at-sound = at-many .before in
+    let at-checked = at-sound .before in
+    let o = at-checked .before .before .before in
     let h = o .args .h in
     let src = vertexIn (now (o .args .bytes)) in
-    let e = passed (i .before .vertices-are-sound .ensures ∙ vertices-by _ h (o .pre .0)) (i .if1 .left) in
-    let last = c .before .before .before .before .before .before .last-segment .ensures .0 ∙ ap (λ (t : Bool). lastSegment t (h .vertices)) (c .before .before .before .before .before .before .before .is-closed .ensures) in
-    let is = p .before .outline-box .ensures ∙ ap₂ (λ (t : Bool) (n : ℕ). boxTo t src (h .vertices) n) (c .before .before .before .before .is-fast .ensures) last in
-    (named (ap boundsLine is ∙ simp e (some-box _ h (o .pre .0) (c .before .before .before .before .before .before .before .before .if2 .left))) (p .put-box .ensures .0), omega arith)
+    let e = passed (at-checked .vertices-are-sound .ensures ∙ vertices-by _ h (o .pre)) (at-sound .if1 .left) in
+    let last = at-last .last-segment .ensures .0 ∙ ap (λ (t : Bool). lastSegment t (h .vertices)) (at-closed .is-closed .ensures) in
+    let is = at-outline-box .outline-box .ensures ∙ ap₂ (λ (t : Bool) (n : ℕ). boxTo t src (h .vertices) n) (at-fast .is-fast .ensures) last in
+    let length = bounds-length (at-outline-box .outline-box .result) in
+    named-part (ap boundsLine is ∙ simp e (some-box _ h (o .pre) (at-many .if2 .left))) (record { piece = at-box .put-box .ensures; short = omega arith })
 
 pub put-extent-spec : {M : Type 1} → statement M
 put-extent-spec =

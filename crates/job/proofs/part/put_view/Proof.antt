@@ -4,23 +4,28 @@ use native.Mathlib.Omega.{arith}
 use borrow.Author.Needs.{needs}
 use denote.Ref.{now}
 use Rattle.view.specs.Validation.{validationReply}
-use Rattle.job.proofs.Writing.{named}
+use Rattle.job.proofs.Lengths.{refused-view-length}
 use Rattle.job.proofs.Viewing.{refused-text, refused-buffer}
+use Rattle.job.proofs.Parting.{named-part}
 use Rattle.job.proofs.part.put_view.Statement.{statement}
 use Rattle.job.proofs.part.put_view.Tie as tie
 
 put-marked-requires : tie.Need-put-marked-requires
 put-marked-requires c κs =
-    let o = c .before .before .before .before .before .before .before .before .before in
-    (o .pre .0, omega arith, omega arith, sym (c .before .before .before .before .before .validate-for-source .ensures) ∙ ap validationReply (c .before .before .before .answer2 .given .1))
+    let at-answer = c .before .before .before in
+    let at-validated = at-answer .before .before in
+    (at-validated .before .before .before .before .pre .0, omega arith, sym (at-validated .validate-for-source .ensures) ∙ ap validationReply (at-answer .answer2 .given .1))
 
 returns : tie.Need-returns
 returns c =
-    let p = c .before .before in
-    let o = c .before .before .before .before .before .before .before .before .before .before .before in
+    let at-line = c .before .before in
+    let at-answer = at-line .before .before .before in
+    let at-validated = at-answer .before .before in
+    let o = at-validated .before .before .before .before in
     let a = o .args in
-    let e = sym (p .before .before .before .before .before .validate-for-source .ensures) ∙ ap validationReply (p .before .before .before .answer .given .1) in
-    (named (refused-text (a .closed) (now (a .outline)) (a .d) (a .k) (now (a .list)) _ e) (p .put-refused-view .ensures .0), omega arith, refused-buffer (a .closed) (now (a .outline)) (a .d) (a .k) (now (a .list)) _ e)
+    let e = sym (at-validated .validate-for-source .ensures) ∙ ap validationReply (at-answer .answer .given .1) in
+    let length = refused-view-length (a .k) (at-answer .answer .given .0 .0) (o .pre .0) (omega arith) in
+    (named-part (refused-text (a .closed) (now (a .outline)) (a .d) (a .k) (now (a .list)) _ e) (record { piece = at-line .put-refused-view .ensures; short = length }), refused-buffer (a .closed) (now (a .outline)) (a .d) (a .k) (now (a .list)) _ e)
 
 pub put-view-spec : {M : Type 1} → statement M
 put-view-spec =

@@ -6,10 +6,10 @@ use native.Mathlib.Omega.{arith}
 use borrow.Author.Needs.{needs}
 use denote.Ref.{now}
 use Rattle.real.proofs.Pick.{passed, failed}
-use Rattle.job.specs.Wrote.{Filled}
+use Rattle.text.specs.Wrote.{Filled}
 use Rattle.job.proofs.Heads.{long-header, headed}
-use Rattle.job.proofs.Writing.{filled, nothing}
-use Rattle.job.proofs.Parting.{no-part}
+use Rattle.text.proofs.Writing.{nothing}
+use Rattle.job.proofs.Parting.{no-part, part-filled}
 use Rattle.job.proofs.part.sheet_part.Statement.{statement}
 use Rattle.job.proofs.part.sheet_part.Tie as tie
 
@@ -25,10 +25,10 @@ header-of-requires c κs = long-header _ (passed (c .before .header-is-sound .en
 put-part-requires : tie.Need-put-part-requires
 put-part-requires c κs =
     let i = c .before .before .before in
-    (headed _ _ (passed (i .before .header-is-sound .ensures) (i .if1 .left)) (c .before .before .header-of .ensures), omega arith, omega arith)
+    (headed _ _ (passed (i .before .header-is-sound .ensures) (i .if1 .left)) (c .before .before .header-of .ensures), omega arith)
 
 returns-2 : tie.Need-returns-2
-returns-2 c = (filled (c .put-part .ensures .0) (omega (arith, c .put-part .ensures .1)), c .put-part .ensures .2)
+returns-2 c = (part-filled (c .put-part .ensures .0) (omega arith), c .put-part .ensures .1)
 
 pub sheet-part-spec : {M : Type 1} → statement M
 sheet-part-spec = tie.close (tie.spec (λ c κs. search needs) returns header-of-requires put-part-requires returns-2)

@@ -6,7 +6,7 @@ use native.Mathlib.Omega.{arith}
 use borrow.Author.Needs.{needs}
 use Rattle.job.specs.Bytes.{bytes4}
 use Rattle.job.specs.Record.{endBytes}
-use Rattle.job.proofs.Writing.{writes, named}
+use Rattle.text.proofs.Writing.{writes, named}
 use Rattle.job.proofs.record.put_end.Statement.{statement}
 use Rattle.job.proofs.record.put_end.Tie as tie
 

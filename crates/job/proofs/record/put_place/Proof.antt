@@ -2,7 +2,7 @@
 use native.Mathlib.Omega.{arith}
 use borrow.Author.Needs.{needs}
 use Rattle.job.specs.Record.{placeBytes}
-use Rattle.job.proofs.Writing.{writes}
+use Rattle.text.proofs.Writing.{writes}
 use Rattle.job.proofs.record.put_place.Statement.{statement}
 use Rattle.job.proofs.record.put_place.Tie as tie
 

@@ -2,7 +2,7 @@
 use native.Mathlib.Omega.{arith}
 use borrow.Author.Needs.{needs}
 use Rattle.job.specs.Record.{vertexBytes}
-use Rattle.job.proofs.Writing.{next}
+use Rattle.text.proofs.Writing.{next}
 use Rattle.job.proofs.record.put_vertex.Statement.{statement}
 use Rattle.job.proofs.record.put_vertex.Tie as tie
 

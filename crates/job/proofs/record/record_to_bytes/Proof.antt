@@ -9,7 +9,7 @@ use borrow.Author.Needs.{needs}
 use denote.Ref.{now}
 use Rattle.real.specs.Reply.{given}
 use Rattle.job.specs.Record.{recordBytes, recordTo, recordBuffer}
-use Rattle.job.proofs.Writing.{filled}
+use Rattle.text.proofs.Writing.{filled}
 use Rattle.job.proofs.record.record_to_bytes.Statement.{statement}
 use Rattle.job.proofs.record.record_to_bytes.Tie as tie
 
