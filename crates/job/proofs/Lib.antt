@@ -1,4 +1,4 @@
--- The theorems: Whole, Records, Viewing, Same, Example. Sheets has what the program uses.
+-- The theorems: Whole, Viewing, Same, Example. Sheets has what the program uses.
 mod Tests
 mod Replies
 mod Writing
@@ -12,6 +12,5 @@ pub mod Sheets
 pub mod Viewing
 mod Parting
 pub mod Whole
-pub mod Records
 pub mod Same
 pub mod Example

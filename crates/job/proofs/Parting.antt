@@ -8,10 +8,10 @@ use lib.Ieee.{Float}
 use borrow.Author.Tests.{eq-eqb, ne-eqb, lt-ltb, le-ltb}
 use Rattle.job.specs.declared.header.Header.{Header}
 use Rattle.job.specs.Header.{headerOf, headerOk, closed, fast, Headed}
-use Rattle.job.specs.Record.{recordOf}
+use Rattle.record.specs.Record.{recordOf}
 use Rattle.job.specs.Outline.{vertexIn}
 use Rattle.job.specs.Extent.{boxTo, lastSegment}
-use Rattle.job.specs.Sheet.{views, recordPlace}
+use Rattle.job.specs.Sheet.{views, recordAt}
 use Rattle.job.specs.Lines.{outlineLine, noBoxLine, boundsLine}
 use Rattle.job.specs.Views.{viewText, viewBuffer}
 use Rattle.job.specs.Parts.{boxLine, boxPart, partText, partBuffer}
@@ -40,8 +40,8 @@ module _ (b : List ℕ) (s l : List Float) (k : ℕ) where
         (simp (ok, lt-ltb k (views b + 2) h, ne-eqb k 0 n, eq-eqb k 1 z), simp (ok, lt-ltb k (views b + 2) h, lt-ltb k 2 (omega arith)))
 
     pub view-part : 2 ≤ k → k < views b + 2
-        → (viewText (closed (headerOf b)) s (k - 2) (recordOf b (recordPlace b (k - 2))) ≡ partText b s k)
-        × (viewBuffer (closed (headerOf b)) s (recordOf b (recordPlace b (k - 2))) l ≡ partBuffer b s k l)
+        → (viewText (closed (headerOf b)) s (k - 2) (recordOf (recordAt b (k - 2))) ≡ partText b s k)
+        × (viewBuffer (closed (headerOf b)) s (recordOf (recordAt b (k - 2))) l ≡ partBuffer b s k l)
     unfolding partText partBuffer
     view-part z h =
         let n : k ≡ 0 → ⊥ = λ q. absurd (omega arith) in

@@ -1,14 +1,11 @@
 pub mod Ascii
 pub mod Wrote
-pub mod Bytes
 pub mod Text
 pub mod Header
-pub mod Record
 pub mod Outline
 pub mod Extent
 pub mod Sheet
 pub mod Lines
 pub mod Views
 pub mod Parts
-pub mod RoundTrip
 pub mod Example

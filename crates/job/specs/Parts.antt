@@ -6,10 +6,10 @@ use lib.Dec.{ltb, eqb}
 use lib.Ieee.{Float}
 use Rattle.real.specs.Reply.{Reply, refused, given}
 use Rattle.job.specs.Header.{headerOf, headerOk, closed, fast}
-use Rattle.job.specs.Record.{recordOf}
+use Rattle.record.specs.Record.{recordOf}
 use Rattle.job.specs.Outline.{vertexIn}
 use Rattle.job.specs.Extent.{boxTo, lastSegment}
-use Rattle.job.specs.Sheet.{views, outlineOf, recordPlace, recordsOf, verticesOk, sheetOf}
+use Rattle.job.specs.Sheet.{views, outlineOf, recordAt, recordsOf, verticesOk, sheetOf}
 use Rattle.job.specs.Text.{numbered}
 use Rattle.job.specs.Lines.{refusedLine, outlineLine, boundsLine, noBoxLine}
 use Rattle.job.specs.Views.{viewText, viewBuffer}
@@ -47,12 +47,12 @@ partText b s k =
     cond (headerOk b && ltb k (h .views + 2))
     (cond (eqb k 0) (outlineLine (h .vertices) (h .views) (closed h))
     (cond (eqb k 1) (boxPart b)
-    (viewText (closed h) s (k - 2) (recordOf b (recordPlace b (k - 2))))))
+    (viewText (closed h) s (k - 2) (recordOf (recordAt b (k - 2))))))
     []
 
 -- the buffer in which a cut view is listed
 unfoldable pub partBuffer : List ℕ → List Float → ℕ → List Float → List Float
 partBuffer b s k l =
     cond (headerOk b && ltb k (views b + 2))
-    (cond (ltb k 2) l (viewBuffer (closed (headerOf b)) s (recordOf b (recordPlace b (k - 2))) l))
+    (cond (ltb k 2) l (viewBuffer (closed (headerOf b)) s (recordOf (recordAt b (k - 2))) l))
     l

@@ -12,10 +12,11 @@ use crate::line::put_refused;
 use crate::line::put_refused_view;
 use crate::line::put_view_line;
 use crate::outline::vertices_are_sound;
-use crate::record::record_of;
+use crate::records::record_at;
 use crate::size::LIST_NUMBERS;
 use crate::size::PART_BYTES;
 use crate::text::put_rows;
+use record::record_of;
 use view::Mark;
 use view::PlineViewData;
 use view::ValidationAnswer;
@@ -138,7 +139,7 @@ fn put_part(
     if k == 1 {
         return put_extent(bytes, h, out);
     }
-    let d = record_of(bytes, 16 + 24 * h.vertices + 64 * (k - 2));
+    let d = record_of(record_at(bytes, h, k - 2));
     put_view(outline, d, k - 2, closed, list, out)
 }
 

@@ -2,7 +2,8 @@
 use mathlib.Core.Path.{sym, ap, _∙_}
 use borrow.Author.Needs.{needs}
 use Rattle.job.specs.Extent.{boxReply}
-use Rattle.job.proofs.Replies.{same-given, never-given}
+use Rattle.record.proofs.Replies.{same-given}
+use Rattle.job.proofs.Replies.{never-given}
 use Rattle.job.proofs.Boxes.{box-answer-given}
 use Rattle.job.proofs.extent.segment_box.Statement.{statement}
 use Rattle.job.proofs.extent.segment_box.Tie as tie

@@ -8,7 +8,8 @@ use lib.ListN.{length, drop, set, length-set}
 use lib.Ieee.{Float}
 use denote.Ref.{now}
 use Rattle.lists.specs.Plain.{tab}
-use Rattle.job.specs.Bytes.{floatAt}
+use Rattle.record.specs.Bytes.{floatAt}
+use Rattle.job.specs.Header.{headerSize}
 use Rattle.job.specs.Outline.{numbersIn}
 use Rattle.job.proofs.Fill.{fill-next}
 use Rattle.job.proofs.outline.decode.Statement.{statement}
@@ -34,8 +35,8 @@ loop-again c =
       omega arith,
       simp length-set (l .inv .1),
       ap (λ (o : List Float). set o (l .i) (c .float-at .result)) (l .inv .2)
-          ∙ fill-next (λ j. floatAt b (16 + 8 * j)) (now (a .out)) (l .i) (c .float-at .result) h (c .float-at .ensures)
-          ∙ ap (λ (m : ℕ). tab (λ j. floatAt b (16 + 8 * j)) m ++ drop m (now (a .out))) (sym (add-one (l .i))),
+          ∙ fill-next (λ j. floatAt b (headerSize + 8 * j)) (now (a .out)) (l .i) (c .float-at .result) h (c .float-at .ensures)
+          ∙ ap (λ (m : ℕ). tab (λ j. floatAt b (headerSize + 8 * j)) m ++ drop m (now (a .out))) (sym (add-one (l .i))),
     )
 
 returns : tie.Need-returns Inv-loop μ-loop

@@ -1,14 +1,14 @@
 -- The number of the part picks the case of the definition.
 use mathlib.Core.Path.{_≡_, ap, ap₂, _∙_}
 use mathlib.Core.Bool.{Bool}
-use Prim.Native.Nat.{_+_, _*_, _-_, _≤_, _<_}
+use Prim.Native.Nat.{_+_, _-_, _≤_, _<_}
 use native.Mathlib.Omega.{arith}
 use borrow.Author.Needs.{needs}
 use denote.Ref.{now}
 use Rattle.view.specs.declared.view_data.PlineViewData.{PlineViewData}
 use Rattle.job.specs.declared.header.Header.{Header}
 use Rattle.job.specs.Header.{closed}
-use Rattle.job.specs.Record.{recordOf}
+use Rattle.record.specs.Record.{recordOf}
 use Rattle.job.specs.Sheet.{views}
 use Rattle.job.specs.Lines.{outlineLine}
 use Rattle.job.specs.Views.{viewText, viewBuffer}
@@ -44,20 +44,26 @@ returns-3 c =
 
 returns-4 : tie.Need-returns-4
 returns-4 c =
-    let w = c .before .before .before .before in
-    let o = c .before .before .before .before .before .before .before .before .before .before .before .before .before .before .before .before .before .before in
+    let at-view = c .before .before .before .before in
+    let at-record-of = at-view .before .before .before in
+    let at-record-at = at-record-of .before in
+    let past-box = at-record-at .before in
+    let past-outline = past-box .before in
+    let at-closed = past-outline .before in
+    let past-parts = at-closed .before in
+    let o = past-parts .before .before .before .before .before .before in
     let a = o .args in
     let b = now (a .bytes) in
     let g = o .pre .0 in
     let n : a .h .views ≡ views b = ap (λ (h : Header). h .views) (g .is) in
-    let k : a .k < views b + 2 = omega (arith, c .before .before .before .before .before .before .before .before .before .before .before .before .if1 .left) in
-    let two : 2 ≤ a .k = omega (arith, c .before .before .before .before .before .before .before .before .before .before .if2 .left, c .before .before .before .before .before .before .before .before .before .if3 .left) in
+    let k : a .k < views b + 2 = omega (arith, past-parts .if1 .left) in
+    let two : 2 ≤ a .k = omega (arith, past-outline .if2 .left, past-box .if3 .left) in
     let p = view-part b (now (a .outline)) (now (a .list)) (a .k) (g .sound) two k in
-    let t = c .before .before .before .before .before .before .before .before .before .before .before .is-closed .ensures ∙ ap closed (g .is) in
-    let d = c .before .before .before .before .before .before .before .record-of .ensures ∙ ap (λ (h : Header). recordOf b (16 + 24 * h .vertices + 64 * (a .k - 2))) (g .is) in (
-      named (ap₂ (λ (t : Bool) (d : PlineViewData). viewText t (now (a .outline)) (a .k - 2) d) t d ∙ p .0) (w .put-view .ensures .0),
-      w .put-view .ensures .1,
-      w .put-view .ensures .2 ∙ ap₂ (λ (t : Bool) (d : PlineViewData). viewBuffer t (now (a .outline)) d (now (a .list))) t d ∙ p .1,
+    let t = at-closed .is-closed .ensures ∙ ap closed (g .is) in
+    let d = at-record-of .record-of .ensures ∙ ap recordOf (at-record-at .record-at .ensures) in (
+      named (ap₂ (λ (t : Bool) (d : PlineViewData). viewText t (now (a .outline)) (a .k - 2) d) t d ∙ p .0) (at-view .put-view .ensures .0),
+      at-view .put-view .ensures .1,
+      at-view .put-view .ensures .2 ∙ ap₂ (λ (t : Bool) (d : PlineViewData). viewBuffer t (now (a .outline)) d (now (a .list))) t d ∙ p .1,
     )
 
 pub put-part-spec : {M : Type 1} → statement M
@@ -74,10 +80,7 @@ put-part-spec =
     (λ c. search needs)
     returns-3
     (λ c. search needs)
-    (λ c. search needs)
-    (λ c. search needs)
-    (λ c. search needs)
-    (λ c. search needs)
+    (λ c κs. search needs)
     (λ c κs. search needs)
     (λ c. search needs)
     (λ c κs. search needs)

@@ -1,0 +1,5 @@
+pub mod Wrote
+pub mod Bytes
+pub mod Layout
+pub mod Record
+pub mod RoundTrip
