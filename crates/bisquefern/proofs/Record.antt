@@ -10,8 +10,8 @@ use borrow.Author.Tests.{leb-true, leb-false}
 use Rattle.real.specs.Refusal.{noRoom}
 use Rattle.real.specs.Reply.{Reply, refused, given, check}
 use Rattle.view.specs.declared.view_data.PlineViewData.{PlineViewData}
-use Rattle.job.specs.Bytes.{bytes4, bytes8, floatBytes}
-use Rattle.job.specs.Record.{vertexBytes, pointBytes, placeBytes, endBytes, recordBytes, recordTo, recordBuffer}
+use Rattle.record.specs.Bytes.{bytes4, bytes8, floatBytes}
+use Rattle.record.specs.Record.{vertexBytes, pointBytes, placeBytes, endBytes, recordBytes, recordTo, recordBuffer}
 use Rattle.bisquefern.specs.Lent.{Answered}
 use Rattle.bisquefern.proofs.Laws.{short, stores}
 

@@ -15,7 +15,7 @@ use Rattle.view.specs.Record.{listed}
 use Rattle.view.specs.Answers.{vertexCountOf}
 use Rattle.view.specs.Validation.{Verdict, MarkCase, cut, hold}
 use Rattle.view.specs.declared.view_data.PlineViewData.{PlineViewData}
-use Rattle.job.specs.Record.{recordFrom}
+use Rattle.record.specs.Record.{recordFrom}
 use Rattle.bisquefern.specs.Lent.{andThen, Both, both}
 
 -- a call on the record of a slice; 11 and 12 come first

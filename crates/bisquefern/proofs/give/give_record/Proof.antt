@@ -2,7 +2,7 @@
 use mathlib.Core.Path.{sym, ap, _∙_}
 use borrow.Author.Needs.{needs}
 use Rattle.view.specs.Answers.{viewReply}
-use Rattle.job.specs.Record.{bytesReply}
+use Rattle.record.specs.Record.{bytesReply}
 use Rattle.bisquefern.proofs.Laws.{refuses, replies}
 use Rattle.bisquefern.proofs.Record.{record-given, record-short}
 use Rattle.bisquefern.proofs.give.give_record.Statement.{statement}

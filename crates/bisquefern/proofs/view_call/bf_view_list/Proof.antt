@@ -1,7 +1,7 @@
 -- Past the reading of the record, the list and its count are written.
 use mathlib.Core.Path.{sym, ap, _∙_, refl}
 use borrow.Author.Needs.{needs}
-use Rattle.job.specs.Record.{recordReply}
+use Rattle.record.specs.Record.{recordReply}
 use Rattle.bisquefern.proofs.Laws.{past, stops}
 use Rattle.bisquefern.proofs.view_call.bf_view_list.Statement.{statement}
 use Rattle.bisquefern.proofs.view_call.bf_view_list.Tie as tie

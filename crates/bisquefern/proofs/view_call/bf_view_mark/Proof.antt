@@ -1,7 +1,7 @@
 -- Past the reading of the record, the reply is that of the call behind it.
 use mathlib.Core.Path.{sym, ap, _∙_}
 use borrow.Author.Needs.{needs}
-use Rattle.job.specs.Record.{recordReply}
+use Rattle.record.specs.Record.{recordReply}
 use Rattle.bisquefern.proofs.Laws.{past, stops}
 use Rattle.bisquefern.proofs.view_call.bf_view_mark.Statement.{statement}
 use Rattle.bisquefern.proofs.view_call.bf_view_mark.Tie as tie
