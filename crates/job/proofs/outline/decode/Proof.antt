@@ -28,8 +28,9 @@ loop-holds c = (omega arith, refl, refl)
 loop-again : tie.Need-loop-again Inv-loop μ-loop
 unfolding numbersIn
 loop-again c =
-    let l = c .before .before .loop in
-    let a = c .before .before .before .before .before .args in
+    let at-loop = c .before .before in
+    let l = at-loop .loop in
+    let a = at-loop .before .before .before .args in
     let b = now (a .bytes) in
     let h : l .i < length (now (a .out)) = omega arith in (
       omega arith,
@@ -41,9 +42,10 @@ loop-again c =
 
 returns : tie.Need-returns Inv-loop μ-loop
 returns c =
-    let a = c .before .before .before .before .args in
-    let e : c .before .loop .i ≡ a .n = omega arith in
-    c .before .loop .inv .2 ∙ ap (λ (m : ℕ). numbersIn (now (a .bytes)) m ++ drop m (now (a .out))) e
+    let at-loop = c .before in
+    let a = at-loop .before .before .before .args in
+    let e : at-loop .loop .i ≡ a .n = omega arith in
+    at-loop .loop .inv .2 ∙ ap (λ (m : ℕ). numbersIn (now (a .bytes)) m ++ drop m (now (a .out))) e
 
 pub decode-spec : {M : Type 1} → statement M
 decode-spec =

@@ -13,8 +13,9 @@ returns c = let e = failed (c .before .header-is-sound .ensures) (c .if1 .taken)
 
 open-after-requires : tie.Need-open-after-requires
 open-after-requires c κs =
-    let h = c .before .before in
-    (headed _ _ (passed (h .before .header-is-sound .ensures) (h .if1 .left)) (c .before .header-of .ensures), search needs)
+    let at-header = c .before in
+    let past-header = at-header .before in
+    (headed _ _ (passed (past-header .before .header-is-sound .ensures) (past-header .if1 .left)) (at-header .header-of .ensures), search needs)
 
 pub open-sheet-spec : {M : Type 1} → statement M
 open-sheet-spec = tie.close (tie.spec (λ c κs. search needs) returns (λ c κs. search needs) open-after-requires (λ c. search needs))

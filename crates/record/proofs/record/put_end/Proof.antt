@@ -12,7 +12,11 @@ use Rattle.record.proofs.record.put_end.Tie as tie
 
 returns : tie.Need-returns
 unfolding endBytes
-returns c = (named (ap (λ (n : ℕ). bytes4 n ++ bytes4 0) (c .before .before .before .before .before .before .before .direction .ensures)) (search writes), omega arith)
+returns c =
+    let at-reserved = c .before .before in
+    let at-number = at-reserved .before .before .before .before in
+    let at-direction = at-number .before in
+    (named (ap (λ (n : ℕ). bytes4 n ++ bytes4 0) (at-direction .direction .ensures)) (search writes), omega arith)
 
 pub put-end-spec : {M : Type 1} → statement M
 put-end-spec = tie.close (tie.spec (λ c κs. search needs) (λ c κs. search needs) (λ c κs. search needs) (λ c. search needs) returns)

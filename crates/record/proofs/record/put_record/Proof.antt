@@ -9,12 +9,12 @@ use Rattle.record.proofs.record.put_record.Tie as tie
 returns : tie.Need-returns
 unfolding recordBytes
 returns c =
-    let c₄ = c .before .before in
-    let c₃ = c₄ .before .before .before .before in
-    let c₂ = c₃ .before .before .before .before in
-    let c₁ = c₂ .before .before .before .before in
-    let c₀ = c₁ .before .before .before .before in
-    (next (next (next (next (c₀ .put-place .ensures .0) (c₁ .put-vertex .ensures .0)) (c₂ .put-pattern .ensures .0)) (c₃ .put-point .ensures .0)) (c₄ .put-end .ensures .0), omega arith)
+    let at-end = c .before .before in
+    let at-point = at-end .before .before .before .before in
+    let at-bulge = at-point .before .before .before .before in
+    let at-vertex = at-bulge .before .before .before .before in
+    let at-place = at-vertex .before .before .before .before in
+    (next (next (next (next (at-place .put-place .ensures .0) (at-vertex .put-vertex .ensures .0)) (at-bulge .put-pattern .ensures .0)) (at-point .put-point .ensures .0)) (at-end .put-end .ensures .0), omega arith)
 
 pub put-record-spec : {M : Type 1} → statement M
 put-record-spec =
