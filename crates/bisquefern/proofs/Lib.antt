@@ -2,5 +2,6 @@
 mod Laws
 mod Copy
 mod Record
+mod Placed
 mod Listed
 pub mod Root

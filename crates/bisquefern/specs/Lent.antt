@@ -9,6 +9,8 @@ use lib.Ieee.{Float, binary64}
 use Rattle.real.specs.Refusal.{noRoom}
 use Rattle.real.specs.Reply.{Reply, refused, given, check}
 use Rattle.real.specs.Sqrt.{IsSqrt}
+use Rattle.view.specs.declared.view_data.PlineViewData.{PlineViewData}
+use Rattle.record.specs.Record.{recordTo, recordBuffer}
 
 -- the rest of a call, past what is refused before it
 unfoldable pub andThen : {A B : Type 0} → Reply A → (A → Reply B) → Reply B
@@ -59,6 +61,13 @@ pub record RootAnswered (x : Float) (before : List Float) (code : ℕ) (after : 
   pub reply : Reply Float
   pub root : IsSqrt binary64 x reply
   pub answered : Answered one reply before code after
+
+-- a record's bytes, as its writer leaves them: 5 and 4 for numbers that are no u32, then 8
+unfoldable pub recordLent : PlineViewData → List ℕ → Reply (List ℕ)
+recordLent d before = andThen (recordTo d (length before)) (λ n. given (recordBuffer d before))
+
+abbrev pub RecordAnswered : Reply PlineViewData → List ℕ → ℕ → List ℕ → Type 0
+RecordAnswered reply before = Left reply (λ d. recordLent d before) before
 
 -- ---- a buffer of whole numbers and one of floats
 

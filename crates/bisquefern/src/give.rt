@@ -23,8 +23,7 @@ ghost use Rattle.seg.specs.Bounds.{boxReply};
 ghost use Rattle.seg.specs.Split.{splitReply};
 ghost use Rattle.view.specs.Answers.{viewReply, countReply};
 ghost use Rattle.view.specs.Validation.{markReply};
-ghost use Rattle.record.specs.Record.{recordBytes};
-ghost use Rattle.bisquefern.specs.Lent.{one, Answered};
+ghost use Rattle.bisquefern.specs.Lent.{one, Answered, RecordAnswered};
 ghost use Rattle.bisquefern.specs.Segment.{pointNumbers, vertexNumbers, circleNumbers, boxNumbers, splitNumbers, flagByte};
 ghost use Rattle.bisquefern.specs.View.{markByte};
 
@@ -143,7 +142,7 @@ pub(crate) fn give_count(answer: CountAnswer, out: &mut [u64]) -> u8
 }
 
 pub(crate) fn give_record(answer: ViewAnswer, out: &mut [u8]) -> u8
-    ensures { λ r. ⌜ Answered recordBytes (viewReply answer) (now (out .entry)) r (now (out .exit)) ⌝ }
+    ensures { λ r. ⌜ RecordAnswered (viewReply answer) (now (out .entry)) r (now (out .exit)) ⌝ }
 {
     match answer {
         ViewAnswer::Given(d) => {

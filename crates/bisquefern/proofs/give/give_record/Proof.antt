@@ -4,7 +4,7 @@ use borrow.Author.Needs.{needs}
 use Rattle.view.specs.Answers.{viewReply}
 use Rattle.record.specs.Record.{bytesReply}
 use Rattle.bisquefern.proofs.Laws.{refuses, replies}
-use Rattle.bisquefern.proofs.Record.{record-given, record-short}
+use Rattle.bisquefern.proofs.Record.{record-given, record-refused}
 use Rattle.bisquefern.proofs.give.give_record.Statement.{statement}
 use Rattle.bisquefern.proofs.give.give_record.Tie as tie
 
@@ -19,7 +19,7 @@ returns-2 c =
     let at-written = c .before in
     let at-record-to-bytes = at-written .before .before .before .before in
     let at-answer = at-record-to-bytes .before .before .before in
-    replies (ap viewReply (sym (at-answer .answer .given .1))) (record-short (ap bytesReply (sym (at-written .written .given .1)) ∙ at-record-to-bytes .record-to-bytes .ensures .0) (at-record-to-bytes .record-to-bytes .ensures .1))
+    replies (ap viewReply (sym (at-answer .answer .given .1))) (record-refused (ap bytesReply (sym (at-written .written .given .1)) ∙ at-record-to-bytes .record-to-bytes .ensures .0) (at-record-to-bytes .record-to-bytes .ensures .1))
 
 returns-3 : tie.Need-returns-3
 returns-3 c =

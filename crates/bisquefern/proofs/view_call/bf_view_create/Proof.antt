@@ -2,8 +2,11 @@
 use mathlib.Core.Path.{_∙_}
 use borrow.Author.Needs.{needs}
 use borrow.Author.Tests.{ne-eqb, eq-eqb}
+use denote.Ref.{now}
 use Rattle.bisquefern.specs.View.{ofVertex}
 use Rattle.bisquefern.proofs.Laws.{refuses, replies}
+use Rattle.bisquefern.proofs.Placed.{create-placed}
+use Rattle.bisquefern.proofs.Record.{placed-answered}
 use Rattle.bisquefern.proofs.view_call.bf_view_create.Statement.{statement}
 use Rattle.bisquefern.proofs.view_call.bf_view_create.Tie as tie
 
@@ -17,7 +20,9 @@ returns-2 c =
     let at-give-record = c .before .before in
     let at-create = at-give-record .before .before in
     let at-if1 = at-create .before .before .before .before in
-    replies (at-create .create .ensures ∙ simp (eq-eqb _ _ (at-if1 .if1 .left))) (at-give-record .give-record .ensures)
+    let a = at-if1 .before .before .before .before .args in
+    replies (at-create .create .ensures ∙ simp (eq-eqb _ _ (at-if1 .if1 .left)))
+    (placed-answered (now (a .outline)) _ _ (λ r e. create-placed (now (a .outline)) _ _ r _ _ _ _ (e ∙ at-create .create .ensures)) (at-give-record .give-record .ensures))
 
 pub bf-view-create-spec : {M : Type 1} → statement M
 bf-view-create-spec = tie.close (tie.spec returns (λ c. search needs) (λ c. search needs) (λ c. search needs) (λ c κs. tt) (λ c κs. tt) (λ c. search needs) returns-2)

@@ -1,8 +1,11 @@
 -- Past the reading of the record, the reply is that of the call behind it.
 use mathlib.Core.Path.{sym, ap, _∙_}
 use borrow.Author.Needs.{needs}
+use denote.Ref.{now}
 use Rattle.record.specs.Record.{recordReply}
 use Rattle.bisquefern.proofs.Laws.{past, stops}
+use Rattle.bisquefern.proofs.Placed.{trim-placed}
+use Rattle.bisquefern.proofs.Record.{placed-answered}
 use Rattle.bisquefern.proofs.view_call.bf_view_trim.Statement.{statement}
 use Rattle.bisquefern.proofs.view_call.bf_view_trim.Tie as tie
 
@@ -12,7 +15,9 @@ returns c =
     let at-trim = at-give-record .before .before in
     let at-decoded = at-trim .before .before in
     let at-record-from-bytes = at-decoded .before .before in
-    past _ (ap recordReply (sym (at-decoded .decoded .given .1)) ∙ at-record-from-bytes .record-from-bytes .ensures) (at-trim .trim .ensures) (at-give-record .give-record .ensures)
+    let a = at-record-from-bytes .before .before .before .before .args in
+    past _ (ap recordReply (sym (at-decoded .decoded .given .1)) ∙ at-record-from-bytes .record-from-bytes .ensures) (at-trim .trim .ensures)
+    (placed-answered (now (a .outline)) _ _ (λ r e. trim-placed (now (a .outline)) _ r (a .i) (a .j) (e ∙ at-trim .trim .ensures)) (at-give-record .give-record .ensures))
 
 returns-2 : tie.Need-returns-2
 returns-2 c =

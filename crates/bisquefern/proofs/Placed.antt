@@ -1,0 +1,82 @@
+-- A record that a call answers lies in its outline, so its start and offset are at most 1,024.
+use mathlib.Core.Path.{_≡_, sym, subst, _∙_}
+use mathlib.Core.Bool.{Bool, true, false, cond, _&&_}
+use mathlib.Core.List.{List}
+use Prim.Native.Nat.{ℕ, _+_, _-_, _<_, _≤_}
+use native.Mathlib.Nat.{mod-lt}
+use native.Mathlib.Omega.{arith}
+use lib.Dec.{ltb}
+use lib.Ieee.{Float}
+use borrow.Author.Tests.{ltb-true}
+use Rattle.real.specs.Refusal.{unevenBulges, badTrim}
+use Rattle.real.specs.Reply.{Reply, given}
+use Rattle.plane.specs.Grade.{double}
+use Rattle.plane.specs.declared.vector2.Vector2.{Vector2}
+use Rattle.plane.specs.declared.pline_vertex.PlineVertex.{PlineVertex}
+use Rattle.seg.proofs.HalfCircle.{double-sound}
+use Rattle.lists.specs.View.{turnView, trimView, part}
+use Rattle.view.specs.Outline.{countOf, srcOf}
+use Rattle.view.specs.Record.{viewOf, dataOf, vertices, evenBits}
+use Rattle.view.specs.Needs.{Placed}
+use Rattle.view.specs.Answers.{reverseOf, trimOf}
+use Rattle.view.specs.Create.{createOf, newStartOf}
+use Rattle.view.specs.declared.view_data.PlineViewData.{PlineViewData}
+use Rattle.view.proofs.All.{and-both}
+use Rattle.view.proofs.Checks.{check-passed, Checked, checked, checked-rest}
+use Rattle.view.proofs.Made.{create-fine, new-start-fine}
+
+pub same-given : {A : Type 0} {x y : A} → given y ≡ given x → x ≡ y
+same-given e = cc
+
+module _ (s : List Float) (d d′ : PlineViewData) where
+  -- a reversal's answer, and a trim's: what was checked, and the record
+  pub record Turned : Type 0 where
+    pub clear : Checked double s d
+    pub is : dataOf (turnView (viewOf d)) ≡ d′
+
+  pub turned : given d′ ≡ reverseOf double s d → Turned
+  unfolding reverseOf
+  turned e =
+      let k = checked double s d _ e in
+      let even = check-passed {b = evenBits double d} unevenBulges (given (dataOf (turnView (viewOf d)))) (e ∙ checked-rest double s d _ k) in
+      record { clear = k; is = same-given (even .1) }
+
+  pub record Trimmed (i j : ℕ) : Type 0 where
+    pub clear : Checked double s d
+    pub below : i < j
+    pub within : j < vertices d
+    pub is : dataOf (trimView (double .zero) (srcOf s) (countOf s) i j (viewOf d)) ≡ d′
+
+  pub trimmed : (i j : ℕ) → given d′ ≡ trimOf double s d i j → Trimmed i j
+  unfolding trimOf
+  trimmed i j e =
+      let k = checked double s d _ e in
+      let even = check-passed {b = evenBits double d} unevenBulges _ (e ∙ checked-rest double s d _ k) in
+      let ends = check-passed {b = ltb i j && ltb j (vertices d)} badTrim (given (dataOf (trimView (double .zero) (srcOf s) (countOf s) i j (viewOf d)))) (even .1) in
+      let both = and-both (ltb i j) _ (ends .0) in
+      record { clear = k; below = ltb-true _ _ (both .0); within = ltb-true _ _ (both .1); is = same-given (ends .1) }
+
+  pub turn-placed : given d′ ≡ reverseOf double s d → Placed s d′
+  unfolding turnView
+  turn-placed e =
+      let t = turned e in
+      let p = t .clear .placed in
+      subst (Placed s) (t .is) (record { few = p .few; two = p .two; start = p .start; offset = p .offset })
+
+  pub trim-placed : (i j : ℕ) → given d′ ≡ trimOf double s d i j → Placed s d′
+  unfolding trimView part
+  trim-placed i j e =
+      let t = trimmed i j e in
+      let p = t .clear .placed in
+      subst (Placed s) (t .is) (record { few = p .few; two = p .two; start = mod-lt _ (omega arith); offset = ends t (d .«inverted_direction») })
+    where
+      ends : Trimmed i j → (b : Bool) → cond b (d .«end_index_offset» + 1 - i) j - cond b (d .«end_index_offset» + 1 - j) i - 1 ≤ countOf s
+      ends t true = omega (arith, t .clear .placed .offset)
+      ends t false = omega (arith, t .clear .placed .offset)
+
+module _ (s : List Float) (p : Vector2) (eps : Float) (d : PlineViewData) where
+  pub create-placed : (start at : ℕ) (first : PlineVertex) (traverse : ℕ) → given d ≡ createOf double (double .line) s start p at first traverse eps → Placed s d
+  create-placed start at first traverse e = create-fine double double-sound (double .line) s p eps d start at first traverse (sym e) .clear .placed
+
+  pub new-start-placed : (closed : Bool) (start : ℕ) → given d ≡ newStartOf double (double .line) s closed p start eps → Placed s d
+  new-start-placed closed start e = new-start-fine double double-sound (double .line) s p eps d closed start (sym e) .clear .placed
