@@ -9,7 +9,7 @@ use lib.Dec.{ltb}
 use lib.Ieee.{Float}
 use borrow.Author.Tests.{ltb-true}
 use Rattle.real.specs.Refusal.{unevenBulges, badTrim}
-use Rattle.real.specs.Reply.{given}
+use Rattle.real.specs.Reply.{Reply, given}
 use Rattle.plane.specs.Grade.{double}
 use Rattle.plane.specs.declared.vector2.Vector2.{Vector2}
 use Rattle.plane.specs.declared.pline_vertex.PlineVertex.{PlineVertex}
@@ -24,6 +24,10 @@ use Rattle.view.specs.declared.view_data.PlineViewData.{PlineViewData}
 use Rattle.view.proofs.All.{and-both}
 use Rattle.view.proofs.Checks.{check-passed, Checked, checked, checked-rest}
 use Rattle.view.proofs.Made.{create-fine, new-start-fine}
+use Rattle.record.specs.Record.{recordBytes}
+use Rattle.lent.specs.Lent.{Answered}
+use Rattle.lent.specs.Values.{RecordAnswered}
+use Rattle.lent.proofs.Record.{placed-answered}
 
 pub same-given : {A : Type 0} {x y : A} → given y ≡ given x → x ≡ y
 same-given e = cc
@@ -80,3 +84,19 @@ module _ (s : List Float) (p : Vector2) (eps : Float) (d : PlineViewData) where
 
   pub new-start-placed : (closed : Bool) (start : ℕ) → given d ≡ newStartOf double (double .line) s closed p start eps → Placed s d
   new-start-placed closed start e = new-start-fine double double-sound (double .line) s p eps d closed start (sym e) .clear .placed
+
+-- so such a record is written as its 64 bytes
+module _ (s : List Float) {before after : List ℕ} {n : ℕ} {y : Reply PlineViewData} where
+  pub turn-answered : (d : PlineViewData) → y ≡ reverseOf double s d → RecordAnswered y before n after → Answered recordBytes y before n after
+  turn-answered d e = placed-answered s y (λ r f. turn-placed s d r (f ∙ e))
+
+  pub trim-answered : (d : PlineViewData) (i j : ℕ) → y ≡ trimOf double s d i j → RecordAnswered y before n after → Answered recordBytes y before n after
+  trim-answered d i j e = placed-answered s y (λ r f. trim-placed s d r i j (f ∙ e))
+
+  pub create-answered : (start : ℕ) (p : Vector2) (at : ℕ) (first : PlineVertex) (traverse : ℕ) (eps : Float) → y ≡ createOf double (double .line) s start p at first traverse eps
+      → RecordAnswered y before n after → Answered recordBytes y before n after
+  create-answered start p at first traverse eps e = placed-answered s y (λ r f. create-placed s p eps r start at first traverse (f ∙ e))
+
+  pub new-start-answered : (closed : Bool) (p : Vector2) (start : ℕ) (eps : Float) → y ≡ newStartOf double (double .line) s closed p start eps → RecordAnswered y before n after
+      → Answered recordBytes y before n after
+  new-start-answered closed p start eps e = placed-answered s y (λ r f. new-start-placed s p eps r closed start (f ∙ e))

@@ -4,14 +4,15 @@ use Prim.Native.Nat.{ℕ}
 use Rattle.real.specs.Reply.{Reply}
 use Rattle.plane.specs.declared.pline_vertex.PlineVertex.{PlineVertex}
 use Rattle.view.specs.declared.view_data.PlineViewData.{PlineViewData}
-use Rattle.job.specs.Record.{recordReply}
-use Rattle.job.specs.declared.record.RecordAnswer.{RecordAnswer}
-use Rattle.job.specs.declared.record.RecordAnswer.the-variants as record-case
+use Rattle.record.specs.Record.{recordReply}
+use Rattle.record.specs.declared.record.RecordAnswer.{RecordAnswer}
+use Rattle.record.specs.declared.record.RecordAnswer.the-variants as record-case
 use Rattle.lent.specs.Lent.{Left, andThen}
 use Rattle.lent.specs.Segment.{segmentReply}
 use Rattle.lent.specs.declared.segment.SegmentAnswer.{SegmentAnswer}
 use Rattle.lent.specs.declared.segment.SegmentAnswer.the-variants as segment
 use Rattle.lent.proofs.Laws.{past, stops}
+use Rattle.bisquefern.proofs.Placed.{turn-answered, trim-answered}
 
 pub of-segment : {B C : Type 0} {x : Reply (PlineVertex × PlineVertex)} {answer : SegmentAnswer} {v1 v2 : PlineVertex} {y : Reply B} (call : PlineVertex × PlineVertex → Reply B) {store : B → Reply C} {before after : C} {n : ℕ}
     → answer ≡ segment.Given v1 v2 → segmentReply answer ≡ x → y ≡ call (v1, v2) → Left y store before n after → Left (andThen x call) store before n after
@@ -30,4 +31,4 @@ pub no-record : {B C : Type 0} {x : Reply PlineViewData} {answer : RecordAnswer}
 no-record call e f = stops _ (ap recordReply (sym e) ∙ f)
 
 -- what a call on a segment or a record returns: `search reads` finds the reading, the call and the writing
-pub ruleset reads = (of-segment, no-segment, of-record, no-record)
+pub ruleset reads = (of-segment, no-segment, of-record, no-record, turn-answered, trim-answered)

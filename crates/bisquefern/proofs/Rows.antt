@@ -5,11 +5,11 @@ use Prim.Native.Nat.{ℕ, _*_, _≤_}
 use native.Mathlib.Omega.{arith}
 use lib.ListN.{length, take, drop, drop-of-length-le}
 use lib.Seq.{take-at}
-use lib.Dec.{T, leb, eqb}
+use lib.Dec.{T, leb}
 use lib.Ieee.{Float, binary64, fits, ofBits}
 use lib.Ieee.Bits.{ofBits-fits, ofBits-toBits}
 use borrow.Author.Tests.{le-leb}
-use Rattle.real.specs.Refusal.{noRoom, badSheet, badRecord}
+use Rattle.real.specs.Refusal.{noRoom}
 use Rattle.real.specs.Reply.{Reply, refused, given}
 use Rattle.plane.specs.Grade.{double}
 use Rattle.plane.specs.Range.{mostVertices}
@@ -26,12 +26,11 @@ use Rattle.view.specs.declared.view_data.PlineViewData.{PlineViewData}
 use Rattle.view.proofs.Checks.{check-passed, checked, checked-rest}
 use Rattle.view.proofs.Demand3.{demand3}
 use Rattle.view.proofs.Shape.{list-count}
-use Rattle.job.specs.Bytes.{floatAt}
-use Rattle.job.specs.Record.{recordFrom, recordOk, recordOf, recordBytes}
-use Rattle.job.proofs.Records.{from-written}
+use Rattle.record.specs.Bytes.{floatAt}
+use Rattle.record.specs.Record.{recordFrom, recordBytes}
+use Rattle.record.proofs.Records.{record-length, read, from-small}
 use Rattle.lent.specs.Lent.{andThen, heldBy, lent, both, Answered}
 use Rattle.lent.specs.Values.{listReply}
-use Rattle.lent.proofs.Record.{record-length}
 use Rattle.bisquefern.specs.Rows.{bytesAfter, Doubles, stepReply, bytesRow, BytesDemand3}
 use Rattle.bisquefern.proofs.Placed.{same-given, turned, trimmed}
 
@@ -57,9 +56,7 @@ module _ (s : List Float) where
   read-sound : (b : List ℕ) (d : PlineViewData) → recordFrom b ≡ given d → Placed s d → Even double d → Sound d
   unfolding recordFrom floatAt
   read-sound b d e =
-      let size = check-passed {b = eqb (length b) 64} badSheet _ (sym e) in
-      let form = check-passed {b = recordOk b 0} badRecord (given (recordOf b 0)) (size .1) in
-      subst (λ (r : PlineViewData). Placed s r → Even double r → Sound r) (same-given (form .1))
+      subst (λ (r : PlineViewData). Placed s r → Even double r → Sound r) (read b d e .2)
       (λ p even. record {
         start = p .start;
         offset = p .offset;
@@ -88,8 +85,8 @@ module _ (s : List Float) where
 
       written-same : (d : PlineViewData) → Sound d → recordFrom (recordBytes d) ≡ given d
       written-same d h =
-          from-written d
-          (record { start = omega (arith, h .start); offset = omega (arith, h .offset); x = h .first .x; y = h .first .y; bulge = h .first .bulge; end-bulge = h .endBulge; end-x = h .endX; end-y = h .endY })
+          from-small d (record { x = h .first .x; y = h .first .y; bulge = h .first .bulge; end-bulge = h .endBulge; end-x = h .endX; end-y = h .endY })
+          (omega (arith, h .start)) (omega (arith, h .offset))
 
       after-same : (b : List ℕ) (d : PlineViewData) (r : Reply PlineViewData) → Same b d → ((d′ : PlineViewData) → given d′ ≡ r → Sound d′) → Same (bytesAfter b r) (after d r)
       after-same b d (given d′) h f = record { is = written-same d′ (f d′ refl); sound = f d′ refl }

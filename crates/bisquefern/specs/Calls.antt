@@ -11,7 +11,7 @@ use Rattle.plane.specs.Vertex.{vertexAt}
 use Rattle.plane.specs.declared.vector2.Vector2.{Vector2}
 use Rattle.plane.specs.declared.pline_vertex.PlineVertex.{PlineVertex}
 use Rattle.view.specs.declared.view_data.PlineViewData.{PlineViewData}
-use Rattle.job.specs.Record.{recordFrom}
+use Rattle.record.specs.Record.{recordFrom}
 use Rattle.lent.specs.Lent.{andThen}
 use Rattle.lent.specs.Segment.{segmentFrom}
 

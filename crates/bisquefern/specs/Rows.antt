@@ -12,7 +12,7 @@ use Rattle.view.specs.Record.{listed}
 use Rattle.view.specs.Answers.{reverseOf, trimOf}
 use Rattle.view.specs.Rows.{row}
 use Rattle.view.specs.declared.view_data.PlineViewData.{PlineViewData}
-use Rattle.job.specs.Record.{recordFrom, recordBytes}
+use Rattle.record.specs.Record.{recordFrom, recordBytes}
 use Rattle.lent.specs.Lent.{both}
 use Rattle.lent.specs.Values.{listReply}
 use Rattle.bisquefern.specs.Calls.{ofRecord}

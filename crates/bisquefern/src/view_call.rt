@@ -1,6 +1,4 @@
 // The view calls on an outline, numbers in threes, and a record, the job sheet's 64 bytes. A record's own refusals, 11 and 12, come first.
-use job::RecordAnswer;
-use job::record_from_bytes;
 use lent::give_count;
 use lent::give_list;
 use lent::give_mark;
@@ -10,12 +8,14 @@ use lent::give_vertex;
 use plane::PlineVertex;
 use plane::Vector2;
 use real::BAD_OUTLINE;
+use record::RecordAnswer;
+use record::record_from_bytes;
 use view::PlineViewData;
 ghost use Rattle.plane.specs.Grade.{double};
 ghost use Rattle.view.specs.Answers.{getVertexOf, vertexCountOf, reverseOf, trimOf};
 ghost use Rattle.view.specs.Validation.{validateOf, markAnswer};
 ghost use Rattle.view.specs.Create.{createOf, newStartOf};
-ghost use Rattle.job.specs.Record.{recordBytes};
+ghost use Rattle.record.specs.Record.{recordBytes};
 ghost use Rattle.lent.specs.Lent.{itself, one, both, Answered, BothAnswered};
 ghost use Rattle.lent.specs.Values.{vertexNumbers, listReply, markByte, verdictValues};
 ghost use Rattle.bisquefern.specs.Calls.{ofRecord, ofVertex, isClosed, point};

@@ -1,6 +1,5 @@
--- The theorems: Whole, Records, Viewing, Same, Example. Sheets has what the program uses.
+-- The theorems: Whole, Viewing, Same, Example. Sheets has what the program uses.
 mod Tests
-mod Replies
 mod Lengths
 mod Joined
 mod Fill
@@ -10,6 +9,5 @@ pub mod Sheets
 pub mod Viewing
 mod Parting
 pub mod Whole
-pub mod Records
 pub mod Same
 pub mod Example

@@ -17,16 +17,12 @@ use Rattle.lists.proofs.Tab.{length-tab}
 use Rattle.job.specs.declared.header.Header.{Header}
 use Rattle.job.specs.declared.sheet.Opened.{Opened}
 use Rattle.job.specs.Header.{headerOf, headerOk, Headed}
-use Rattle.job.specs.Record.{recordOk}
 use Rattle.job.specs.Outline.{vertexIn, numbersIn}
 use Rattle.job.specs.Sheet.{vertices, views, outlineOf, recordsOk, verticesOk, sheetOf, sheetBytes, outlineNumbers, openOf, openBuffer}
-use Rattle.job.proofs.Replies.{check-given, same-given}
+use Rattle.real.proofs.Replies.{check-given, same-given}
 use Rattle.job.proofs.Heads.{headed}
 
 module _ (b : List ℕ) (h : Header) (g : Headed b h) where
-  pub records-by : all (λ k. recordOk b (16 + 24 * h .vertices + 64 * k)) (h .views) ≡ recordsOk b
-  records-by = ap (λ (k : Header). all (λ j. recordOk b (16 + 24 * k .vertices + 64 * j)) (k .views)) (g .is)
-
   pub vertices-by : all (λ k. vertexOk double (vertexIn b k)) (h .vertices) ≡ verticesOk b
   vertices-by = ap (λ (k : Header). all (λ j. vertexOk double (vertexIn b j)) (k .vertices)) (g .is)
 

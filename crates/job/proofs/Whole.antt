@@ -10,14 +10,14 @@ use Rattle.real.specs.Refusal.{badNumber, badSheet, badRecord}
 use Rattle.real.specs.Reply.{refused, given}
 use Rattle.job.specs.declared.sheet.Opened.{Opened}
 use Rattle.job.specs.Header.{headerOf, headerOk, closed}
-use Rattle.job.specs.Record.{recordOf}
+use Rattle.record.specs.Record.{recordOf}
 use Rattle.job.specs.Rows.{numbered, joined}
-use Rattle.job.specs.Sheet.{views, outlineOf, recordPlace, recordsOf, recordsOk, verticesOk, sheetOf, openOf, openBuffer}
+use Rattle.job.specs.Sheet.{views, outlineOf, recordAt, recordsOf, recordsOk, verticesOk, sheetOf, openOf, openBuffer}
 use Rattle.job.specs.Lines.{refusedLine}
 use Rattle.job.specs.Views.{viewText}
 use Rattle.job.specs.Parts.{boxLine, wholeText, answerText, sheetText, boxPart, frontPart, viewPart, partText}
 use Rattle.job.proofs.Joined.{joined-ext, joined-first, numbered-joined}
-use Rattle.job.proofs.Replies.{never-given, refused-alike}
+use Rattle.real.proofs.Replies.{never-given, refused-alike}
 use Rattle.job.proofs.Sheets.{Accepted, accepted-rest, opened-accepted, opened-is, opened-outline}
 use Rattle.job.proofs.Parting.{front-part, view-part}
 
@@ -26,7 +26,7 @@ module _ (b : List ℕ) (a : Accepted b) where
   part = partText b (outlineOf b)
 
   abbrev view : ℕ → List ℕ
-  view k = viewText (closed (headerOf b)) (outlineOf b) k (recordOf b (recordPlace b k))
+  view k = viewText (closed (headerOf b)) (outlineOf b) k (recordOf (recordAt b k))
 
   box-is : boxPart b ≡ boxLine b
   unfolding boxPart
@@ -38,7 +38,7 @@ module _ (b : List ℕ) (a : Accepted b) where
       joined-ext _ view (views b) (λ k h.
       let e : suc (suc k) - 2 ≡ k = omega arith in
       sym (view-part b (outlineOf b) (outlineOf b) (suc (suc k)) (a .header) (omega arith) (omega arith) .0) ∙ ap view e)
-      ∙ sym (numbered-joined (viewText (closed (headerOf b)) (outlineOf b)) (λ k. recordOf b (recordPlace b k)) (views b))
+      ∙ sym (numbered-joined (viewText (closed (headerOf b)) (outlineOf b)) (λ k. recordOf (recordAt b k)) (views b))
 
   whole : joined part (views b + 2) ≡ wholeText b
   unfolding wholeText frontPart

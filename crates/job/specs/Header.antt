@@ -6,12 +6,20 @@ use mathlib.Core.List.{List}
 use lib.ListN.{length}
 use lib.Dec.{ltb, leb, eqb}
 use Rattle.plane.specs.Range.{mostVertices}
-use Rattle.job.specs.Bytes.{le16, le32}
+use Rattle.record.specs.Bytes.{le16, le32}
+use Rattle.record.specs.Layout.{recordSize}
 use Rattle.job.specs.declared.header.Header.{Header}
 
 -- "Sheet: at most 256 views."
 abbrev pub mostViews : ℕ
 mostViews = 256
+
+-- "Header, 16 bytes"; a vertex is "three f64"
+abbrev pub headerSize : ℕ
+headerSize = 16
+
+abbrev pub vertexSize : ℕ
+vertexSize = 24
 
 -- "Header, 16 bytes: version 1 (2 bytes), flags (2 ..), vertex count V (2), view count W (2), vertex offset (4) .., view offset (4)"
 abbrev pub headerOf : List ℕ → Header
@@ -40,12 +48,12 @@ headerFits h n =
     && (ltb (h .flags) 4
     && (leb (h .vertices) mostVertices
     && (leb (h .views) mostViews
-    && (eqb (h .«vertex_offset») 16
-    && (eqb (h .«view_offset») (16 + 24 * h .vertices)
-    && eqb n (16 + 24 * h .vertices + 64 * h .views))))))
+    && (eqb (h .«vertex_offset») headerSize
+    && (eqb (h .«view_offset») (headerSize + vertexSize * h .vertices)
+    && eqb n (headerSize + vertexSize * h .vertices + recordSize * h .views))))))
 
 unfoldable pub headerOk : List ℕ → Bool
-headerOk b = leb 16 (length b) && headerFits (headerOf b) (length b)
+headerOk b = headerFits (headerOf b) (length b)
 
 -- what the inner functions ask: h is the header of a sheet b that has a good one, and what that says of its numbers
 pub record Headed (b : List ℕ) (h : Header) : Type 0 where
@@ -53,4 +61,4 @@ pub record Headed (b : List ℕ) (h : Header) : Type 0 where
   pub sound : headerOk b ≡ true
   pub vertices : h .vertices ≤ mostVertices
   pub views : h .views ≤ mostViews
-  pub size : length b ≡ 16 + 24 * h .vertices + 64 * h .views
+  pub size : length b ≡ headerSize + vertexSize * h .vertices + recordSize * h .views

@@ -1,6 +1,4 @@
-pub mod Bytes
 pub mod Header
-pub mod Record
 pub mod Outline
 pub mod Extent
 pub mod Sheet
@@ -8,5 +6,4 @@ pub mod Rows
 pub mod Lines
 pub mod Views
 pub mod Parts
-pub mod RoundTrip
 pub mod Example

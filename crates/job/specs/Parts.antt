@@ -6,10 +6,10 @@ use lib.Dec.{ltb, eqb}
 use lib.Ieee.{Float}
 use Rattle.real.specs.Reply.{Reply, refused, given}
 use Rattle.job.specs.Header.{headerOf, headerOk, closed, fast}
-use Rattle.job.specs.Record.{recordOf}
+use Rattle.record.specs.Record.{recordOf}
 use Rattle.job.specs.Outline.{vertexIn}
 use Rattle.job.specs.Extent.{boxTo, lastSegment}
-use Rattle.job.specs.Sheet.{views, outlineOf, recordPlace, recordsOf, verticesOk, sheetOf}
+use Rattle.job.specs.Sheet.{views, outlineOf, recordAt, recordsOf, verticesOk, sheetOf}
 use Rattle.job.specs.Rows.{numbered}
 use Rattle.job.specs.Lines.{refusedLine, outlineLine, boundsLine, noBoxLine}
 use Rattle.job.specs.Views.{viewText, viewBuffer}
@@ -47,14 +47,14 @@ frontPart b k =
     cond (eqb k 0) (outlineLine (h .vertices) (h .views) (closed h)) (boxPart b)
 
 unfoldable pub viewPart : List ℕ → List Float → ℕ → List ℕ
-viewPart b s k = viewText (closed (headerOf b)) s k (recordOf b (recordPlace b k))
+viewPart b s k = viewText (closed (headerOf b)) s k (recordOf (recordAt b k))
 
 unfoldable pub partText : List ℕ → List Float → ℕ → List ℕ
 partText b s k = cond (headerOk b && ltb k (views b + 2)) (cond (ltb k 2) (frontPart b k) (viewPart b s (k - 2))) []
 
 -- the buffer in which a cut view is listed
 unfoldable pub viewBufferOf : List ℕ → List Float → ℕ → List Float → List Float
-viewBufferOf b s k l = viewBuffer (closed (headerOf b)) s (recordOf b (recordPlace b k)) l
+viewBufferOf b s k l = viewBuffer (closed (headerOf b)) s (recordOf (recordAt b k)) l
 
 unfoldable pub partBuffer : List ℕ → List Float → ℕ → List Float → List Float
 partBuffer b s k l = cond (headerOk b && ltb k (views b + 2)) (cond (ltb k 2) l (viewBufferOf b s (k - 2) l)) l

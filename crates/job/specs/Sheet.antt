@@ -2,7 +2,7 @@
 use Prim.Native.Nat.{ℕ, _+_, _*_}
 use mathlib.Core.Bool.{Bool}
 use mathlib.Core.List.{List, _++_}
-use lib.ListN.{drop}
+use lib.ListN.{take, drop}
 use lib.Ieee.{Float}
 use Rattle.real.specs.Refusal.{badNumber, badSheet, badRecord}
 use Rattle.real.specs.Reply.{Reply, refused, given, check}
@@ -12,14 +12,15 @@ use Rattle.lists.specs.Plain.{tab}
 use Rattle.view.specs.Outline.{all}
 use Rattle.view.specs.Answers.{bufferAfter}
 use Rattle.view.specs.declared.view_data.PlineViewData.{PlineViewData}
-use Rattle.job.specs.Header.{mostViews, headerOf, headerOk}
-use Rattle.job.specs.Record.{recordOk, recordOf}
+use Rattle.record.specs.Layout.{recordSize}
+use Rattle.record.specs.Record.{fieldsOk, recordOf}
+use Rattle.job.specs.Header.{mostViews, headerSize, vertexSize, headerOf, headerOk}
 use Rattle.job.specs.Outline.{vertexIn, numbersIn}
 use Rattle.job.specs.declared.sheet.Opened.{Opened}
 use Rattle.job.specs.declared.sheet.OpenAnswer.{OpenAnswer}
 use Rattle.job.specs.declared.sheet.OpenAnswer.the-variants as open-case
 
--- V and W, the outline, and where record k begins
+-- V and W, the outline, and the bytes of record k
 abbrev pub vertices : List ℕ → ℕ
 vertices b = headerOf b .vertices
 
@@ -29,14 +30,14 @@ views b = headerOf b .views
 abbrev pub outlineOf : List ℕ → List Float
 outlineOf b = numbersIn b (3 * vertices b)
 
-abbrev pub recordPlace : List ℕ → ℕ → ℕ
-recordPlace b k = 16 + 24 * vertices b + 64 * k
+abbrev pub recordAt : List ℕ → ℕ → List ℕ
+recordAt b k = take recordSize (drop (headerSize + vertexSize * vertices b + recordSize * k) b)
 
 unfoldable pub recordsOf : List ℕ → List PlineViewData
-recordsOf b = tab (λ k. recordOf b (recordPlace b k)) (views b)
+recordsOf b = tab (λ k. recordOf (recordAt b k)) (views b)
 
 abbrev pub recordsOk : List ℕ → Bool
-recordsOk b = all (λ k. recordOk b (recordPlace b k)) (views b)
+recordsOk b = all (λ k. fieldsOk (recordAt b k)) (views b)
 
 abbrev pub verticesOk : List ℕ → Bool
 verticesOk b = all (λ k. vertexOk double (vertexIn b k)) (vertices b)
@@ -47,7 +48,7 @@ sheetOf b rest = check (headerOk b) badSheet (check (recordsOk b) badRecord (che
 
 -- the bytes of the longest sheet
 abbrev pub sheetBytes : ℕ
-sheetBytes = 16 + 24 * mostVertices + 64 * mostViews
+sheetBytes = headerSize + vertexSize * mostVertices + recordSize * mostViews
 
 -- the numbers of the largest outline
 abbrev pub outlineNumbers : ℕ

@@ -1,11 +1,12 @@
 // A sheet's header: its first 16 bytes.
-use crate::bytes::le16;
-use crate::bytes::le32;
+use crate::size::HEADER_BYTES;
 use crate::size::MOST_VIEWS;
+use crate::size::VERTEX_BYTES;
 use plane::MOST_VERTICES;
+use record::RECORD_BYTES;
+use record::le16;
+use record::le32;
 ghost use mathlib.Core.Path.{_≡_};
-ghost use Prim.Native.Nat.{_≤_};
-ghost use lib.ListN.{length};
 ghost use Rattle.job.specs.Header as spec;
 
 pub struct Header {
@@ -18,7 +19,6 @@ pub struct Header {
 }
 
 pub(crate) fn header_of(bytes: &[u8]) -> Header
-    requires { ⌜ 16 ≤ length (now bytes) ⌝ }
     ensures { λ r. ⌜ r ≡ spec.headerOf (now (bytes .entry)) ⌝ }
 {
     Header {
@@ -39,18 +39,18 @@ fn header_fits(h: Header, length: usize) -> bool
         && (h.flags < 4
             && (h.vertices <= MOST_VERTICES
                 && (h.views <= MOST_VIEWS
-                    && (h.vertex_offset == 16
-                        && (h.view_offset == 16 + 24 * h.vertices
-                            && length == 16 + 24 * h.vertices + 64 * h.views)))))
+                    && (h.vertex_offset == HEADER_BYTES
+                        && (h.view_offset == HEADER_BYTES + VERTEX_BYTES * h.vertices
+                            && length
+                                == HEADER_BYTES
+                                    + VERTEX_BYTES * h.vertices
+                                    + RECORD_BYTES * h.views)))))
 }
 
 // Whether a sheet has a good header.
 pub(crate) fn header_is_sound(bytes: &[u8]) -> bool
     ensures { λ r. ⌜ r ≡ spec.headerOk (now (bytes .entry)) ⌝ }
 {
-    if bytes.len() < 16 {
-        return false;
-    }
     header_fits(header_of(bytes), bytes.len())
 }
 

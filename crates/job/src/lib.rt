@@ -1,21 +1,16 @@
-// The job sheet: its bytes, its records and its text.
-mod bytes;
+// The job sheet: its bytes and its text.
 mod extent;
 mod header;
 mod line;
 mod outline;
 mod part;
-mod record;
+mod records;
 mod row;
 mod sheet;
 mod size;
 
 pub use part::refused_sheet;
 pub use part::sheet_part;
-pub use record::BytesAnswer;
-pub use record::RecordAnswer;
-pub use record::record_from_bytes;
-pub use record::record_to_bytes;
 pub use sheet::OpenAnswer;
 pub use sheet::Opened;
 pub use sheet::open_sheet;

@@ -12,10 +12,11 @@ use crate::line::put_refused;
 use crate::line::put_refused_view;
 use crate::line::put_view_line;
 use crate::outline::vertices_are_sound;
-use crate::record::record_of;
+use crate::records::record_at;
 use crate::row::put_rows;
 use crate::size::LIST_NUMBERS;
 use crate::size::PART_BYTES;
+use record::record_of;
 use view::Mark;
 use view::PlineViewData;
 use view::ValidationAnswer;
@@ -139,7 +140,7 @@ fn put_view_of(
     requires { ⌜ (Headed (now bytes) h) × (k < h .views) × (length (now list) ≡ views.listNumbers) ⌝ }
     ensures { λ r. ⌜ (views.Part (now (out .entry)) (spec.viewPart (now (bytes .entry)) (now (outline .entry)) k) (now (out .exit)) r) × (now (list .exit) ≡ spec.viewBufferOf (now (bytes .entry)) (now (outline .entry)) k (now (list .entry))) ⌝ }
 {
-    let d = record_of(bytes, 16 + 24 * h.vertices + 64 * k);
+    let d = record_of(record_at(bytes, h, k));
     put_view(outline, d, k, is_closed(h), list, out)
 }
 

@@ -4,7 +4,7 @@ use crate::header::header_is_sound;
 use crate::header::header_of;
 use crate::outline::decode;
 use crate::outline::vertices_are_sound;
-use crate::record::records_are_sound;
+use crate::records::records_are_sound;
 use crate::size::OUTLINE_NUMBERS;
 use real::BAD_NUMBER;
 use real::BAD_RECORD;
@@ -30,7 +30,7 @@ fn open_after(bytes: &[u8], h: Header, outline: &mut [f64]) -> OpenAnswer
     requires { ⌜ (Headed (now bytes) h) × (length (now outline) ≡ spec.outlineNumbers) ⌝ }
     ensures { λ r. ⌜ (spec.openReply r ≡ spec.openOf (now (bytes .entry))) × (now (outline .exit) ≡ spec.openBuffer (now (bytes .entry)) (now (outline .entry))) ⌝ }
 {
-    if !records_are_sound(bytes, 16 + 24 * h.vertices, h.views) {
+    if !records_are_sound(bytes, h) {
         return OpenAnswer::Refused(BAD_RECORD);
     }
     if !vertices_are_sound(bytes, h.vertices) {

@@ -2,7 +2,7 @@
 use mathlib.Core.Bool.{Bool, cond}
 use mathlib.Core.List.{List, [], _∷_}
 use Prim.Native.Nat.{ℕ}
-use lib.ListN.{getD}
+use lib.ListN.{length, getD}
 use lib.Ieee.{Float}
 use Rattle.real.specs.Reply.{Reply, given}
 use Rattle.plane.specs.Grade.{double}
@@ -16,7 +16,8 @@ use Rattle.view.specs.Record.{listed}
 use Rattle.view.specs.Answers.{vertexCountOf}
 use Rattle.view.specs.Validation.{Verdict, MarkCase, cut, hold}
 use Rattle.view.specs.declared.view_data.PlineViewData.{PlineViewData}
-use Rattle.lent.specs.Lent.{andThen, Both, both}
+use Rattle.record.specs.Record.{recordTo, recordBuffer}
+use Rattle.lent.specs.Lent.{andThen, Left, Both, both}
 
 abbrev pub pointNumbers : Vector2 → List Float
 pointNumbers p = p .x ∷ p .y ∷ []
@@ -55,6 +56,13 @@ verdictNumbers v =
 
 abbrev pub verdictValues : Verdict → Both
 verdictValues v = both (verdictWords v) (verdictNumbers v)
+
+-- a record's bytes, as its writer leaves them: 5 and 4 for numbers that are no u32, then 8
+unfoldable pub recordLent : PlineViewData → List ℕ → Reply (List ℕ)
+recordLent d before = andThen (recordTo d (length before)) (λ n. given (recordBuffer d before))
+
+abbrev pub RecordAnswered : Reply PlineViewData → List ℕ → ℕ → List ℕ → Type 0
+RecordAnswered reply before = Left reply (λ d. recordLent d before) before
 
 -- the list and its count, refused as the count is
 unfoldable pub listReply : List Float → PlineViewData → Reply Both

@@ -2,10 +2,10 @@
 use crate::write::write;
 use crate::write::write_byte;
 use crate::write::write_words;
-use job::BytesAnswer;
-use job::record_to_bytes;
 use plane::VertexAnswer;
 use real::SqrtAnswer;
+use record::BytesAnswer;
+use record::record_to_bytes;
 use seg::ArcAnswer;
 use seg::BoolAnswer;
 use seg::BoxAnswer;
@@ -23,9 +23,8 @@ ghost use Rattle.seg.specs.Bounds.{boxReply};
 ghost use Rattle.seg.specs.Split.{splitReply};
 ghost use Rattle.view.specs.Answers.{viewReply, countReply};
 ghost use Rattle.view.specs.Validation.{markReply};
-ghost use Rattle.job.specs.Record.{recordBytes};
 ghost use Rattle.lent.specs.Lent.{one, Answered};
-ghost use Rattle.lent.specs.Values.{pointNumbers, vertexNumbers, circleNumbers, boxNumbers, splitNumbers, flagByte, markByte};
+ghost use Rattle.lent.specs.Values.{pointNumbers, vertexNumbers, circleNumbers, boxNumbers, splitNumbers, flagByte, markByte, RecordAnswered};
 
 pub fn give_root(answer: SqrtAnswer, out: &mut [f64]) -> u8
     ensures { λ r. ⌜ Answered one (sqrtReply answer) (now (out .entry)) r (now (out .exit)) ⌝ }
@@ -142,7 +141,7 @@ pub fn give_count(answer: CountAnswer, out: &mut [u64]) -> u8
 }
 
 pub fn give_record(answer: ViewAnswer, out: &mut [u8]) -> u8
-    ensures { λ r. ⌜ Answered recordBytes (viewReply answer) (now (out .entry)) r (now (out .exit)) ⌝ }
+    ensures { λ r. ⌜ RecordAnswered (viewReply answer) (now (out .entry)) r (now (out .exit)) ⌝ }
 {
     match answer {
         ViewAnswer::Given(d) => {

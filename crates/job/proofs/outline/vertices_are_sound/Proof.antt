@@ -25,23 +25,25 @@ loop-holds c = (omega arith, refl)
 
 fails : tie.Need-returns Inv-loop μ-loop
 fails c =
-    let t = c .before .before .before in
-    sym (all-not _ _ (t .before .loop .k) (t .loop-test .taken)
-    (failed (c .before .vertex-in-range .ensures ∙ ap (vertexOk double) (c .before .before .vertex-in .ensures)) (c .if1 .taken)))
+    let at-range = c .before in
+    let at-vertex = at-range .before in
+    let at-test = at-vertex .before in
+    sym (all-not _ _ (at-test .before .loop .k) (at-test .loop-test .taken)
+    (failed (at-range .vertex-in-range .ensures ∙ ap (vertexOk double) (at-vertex .vertex-in .ensures)) (c .if1 .taken)))
 
 loop-again : tie.Need-loop-again Inv-loop μ-loop
 loop-again c =
-    let l = c .before .before .before .before .loop in (
-      omega arith,
-      all-more _ (l .k) (l .inv .1)
-          (passed (c .before .vertex-in-range .ensures ∙ ap (vertexOk double) (c .before .before .vertex-in .ensures)) (c .if1 .left)),
-    )
+    let at-range = c .before in
+    let at-vertex = at-range .before in
+    let l = at-vertex .before .before .loop in
+    (omega arith, all-more _ (l .k) (l .inv .1) (passed (at-range .vertex-in-range .ensures ∙ ap (vertexOk double) (at-vertex .vertex-in .ensures)) (c .if1 .left)))
 
 holds : tie.Need-returns-2 Inv-loop μ-loop
 holds c =
-    let a = c .before .before .before .args in
-    let e : c .before .loop .k ≡ a .n = omega arith in
-    sym (c .before .loop .inv .1) ∙ ap (all (λ j. vertexOk double (vertexIn (now (a .bytes)) j))) e
+    let at-loop = c .before in
+    let a = at-loop .before .before .args in
+    let e : at-loop .loop .k ≡ a .n = omega arith in
+    sym (at-loop .loop .inv .1) ∙ ap (all (λ j. vertexOk double (vertexIn (now (a .bytes)) j))) e
 
 pub vertices-are-sound-spec : {M : Type 1} → statement M
 vertices-are-sound-spec =

@@ -19,9 +19,6 @@ returns c =
     let p = no-part (now (a .bytes)) (now (a .outline)) (now (a .list)) (a .k) (failed (c .before .header-is-sound .ensures) (c .if1 .taken)) in
     (subst (λ (t : List ℕ). Filled t (now (a .out)) (now (a .out)) 0) (p .0) (nothing (now (a .out))), p .1)
 
-header-of-requires : tie.Need-header-of-requires
-header-of-requires c κs = long-header _ (passed (c .before .header-is-sound .ensures) (c .if1 .left))
-
 put-part-requires : tie.Need-put-part-requires
 put-part-requires c κs =
     let i = c .before .before .before in
@@ -31,4 +28,4 @@ returns-2 : tie.Need-returns-2
 returns-2 c = (part-filled (c .put-part .ensures .0) (omega arith), c .put-part .ensures .1)
 
 pub sheet-part-spec : {M : Type 1} → statement M
-sheet-part-spec = tie.close (tie.spec (λ c κs. search needs) returns header-of-requires put-part-requires returns-2)
+sheet-part-spec = tie.close (tie.spec (λ c κs. search needs) returns (λ c κs. search needs) put-part-requires returns-2)

@@ -1,0 +1,4 @@
+-- The theorems: Records, Same.
+mod Past
+pub mod Records
+pub mod Same

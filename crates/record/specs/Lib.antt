@@ -1,0 +1,4 @@
+pub mod Bytes
+pub mod Layout
+pub mod Record
+pub mod RoundTrip
