@@ -4,8 +4,8 @@ use mathlib.Core.Bool.{Bool}
 use borrow.Author.Needs.{needs}
 use denote.Ref.{now}
 use Rattle.view.specs.declared.view_data.PlineViewData.{PlineViewData}
-use Rattle.job.specs.Header.{closed}
 use Rattle.record.specs.Record.{recordOf}
+use Rattle.job.specs.Header.{closed}
 use Rattle.job.specs.Views.{viewText, viewBuffer}
 use Rattle.job.specs.Parts.{viewPart, viewBufferOf}
 use Rattle.job.proofs.Parting.{named-part}
@@ -17,14 +17,13 @@ unfolding viewPart viewBufferOf
 returns c =
     let at-view = c .before .before .before .before in
     let at-closed = at-view .before .before .before in
-    let at-record-of = at-closed .before in
-    let at-record-at = at-record-of .before in
-    let o = at-record-at .before in
+    let at-record = at-closed .before in
+    let at-bytes = at-record .before in
+    let o = at-bytes .before .before .before .before .before in
     let a = o .args in
     let s = now (a .outline) in
-    let h = o .pre .0 .is in
-    let t = at-closed .is-closed .ensures ∙ ap closed h in
-    let d = at-record-of .record-of .ensures ∙ ap recordOf (at-record-at .record-at .ensures) in (
+    let t = at-closed .is-closed .ensures ∙ ap closed (o .pre .0 .is) in
+    let d = at-record .record-of .ensures ∙ ap recordOf (at-bytes .record-at .ensures) in (
       named-part (ap₂ (λ (t : Bool) (d : PlineViewData). viewText t s (a .k) d) t d) (at-view .put-view .ensures .0),
       at-view .put-view .ensures .1 ∙ ap₂ (λ (t : Bool) (d : PlineViewData). viewBuffer t s d (now (a .list))) t d,
     )
@@ -33,6 +32,7 @@ pub put-view-of-spec : {M : Type 1} → statement M
 put-view-of-spec =
     tie.close
     (tie.spec
+    (λ c κs. search needs)
     (λ c κs. search needs)
     (λ c κs. search needs)
     (λ c κs. search needs)

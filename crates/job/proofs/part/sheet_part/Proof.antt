@@ -7,7 +7,7 @@ use borrow.Author.Needs.{needs}
 use denote.Ref.{now}
 use Rattle.real.proofs.Pick.{passed, failed}
 use Rattle.text.specs.Wrote.{Filled}
-use Rattle.job.proofs.Heads.{long-header, headed}
+use Rattle.job.proofs.Heads.{headed}
 use Rattle.text.proofs.Writing.{nothing}
 use Rattle.job.proofs.Parting.{no-part, part-filled}
 use Rattle.job.proofs.part.sheet_part.Statement.{statement}
