@@ -5,18 +5,26 @@ use text::put_decimal;
 use text::put_float;
 use text::put_text;
 use view::Mark;
-ghost use mathlib.Core.List.{_++_};
+ghost use mathlib.Core.List.{[], _∷_, _++_};
 ghost use Rattle.view.specs.Validation.{markCase};
+ghost use Rattle.text.specs.Digits.{decimal};
 ghost use Rattle.text.specs.Wrote.{Put, Piece};
 ghost use Rattle.job.specs.Lines as spec;
+
+// A word, a number and a byte.
+fn put_worded(out: &mut [u8], at: usize, word: &[u8], number: usize, end: u8) -> usize
+    ensures { λ r. ⌜ Piece (now (out .entry)) at (now (word .entry) ++ decimal number ++ end ∷ []) (now (out .exit)) r ⌝ }
+{
+    let a = put_text(out, at, word);
+    let b = put_decimal(out, a, number as u64);
+    put_byte(out, b, end)
+}
 
 // All that a refused sheet prints, and the end of a refused view's line.
 pub(crate) fn put_refused(out: &mut [u8], at: usize, number: usize) -> usize
     ensures { λ r. ⌜ Piece (now (out .entry)) at (spec.refusedLine number) (now (out .exit)) r ⌝ }
 {
-    let a = put_text(out, at, b"refused ");
-    let b = put_decimal(out, a, number as u64);
-    put_byte(out, b, b'\n')
+    put_worded(out, at, b"refused ", number, b'\n')
 }
 
 fn put_closed(out: &mut [u8], at: usize, closed: bool) -> usize
@@ -65,9 +73,7 @@ pub(crate) fn put_no_box(out: &mut [u8]) -> usize
 fn put_head(out: &mut [u8], k: usize) -> usize
     ensures { λ r. ⌜ Piece (now (out .entry)) 0 (spec.viewHead k) (now (out .exit)) r ⌝ }
 {
-    let a = put_text(out, 0, b"view ");
-    let b = put_decimal(out, a, k as u64);
-    put_byte(out, b, b' ')
+    put_worded(out, 0, b"view ", k, b' ')
 }
 
 pub(crate) fn put_refused_view(out: &mut [u8], k: usize, number: usize) -> usize

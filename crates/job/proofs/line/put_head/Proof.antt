@@ -1,25 +1,12 @@
--- The word, the number and a space.
+-- The head is a word, a number and a space.
 use borrow.Author.Needs.{needs}
-use Rattle.text.proofs.Writing.{pieces, three}
 use Rattle.job.specs.Lines.{viewHead}
 use Rattle.job.proofs.line.put_head.Statement.{statement}
 use Rattle.job.proofs.line.put_head.Tie as tie
 
 returns : tie.Need-returns
 unfolding viewHead
-returns c =
-    let at-end = c .before .before in
-    let at-number = at-end .before .before .before .before in
-    let at-word = at-number .before .before .before .before in
-    three pieces (at-word .put-text .ensures .piece) (at-number .put-decimal .ensures .piece) (at-end .put-byte .ensures .piece)
+returns c = c .before .before .put-worded .ensures
 
 pub put-head-spec : {M : Type 1} → statement M
-put-head-spec =
-    tie.close
-    (tie.spec
-    (λ c. search needs)
-    (λ c κs. search needs)
-    (λ c κs. search needs)
-    (λ c κs. search needs)
-    (λ c. search needs)
-    returns)
+put-head-spec = tie.close (tie.spec (λ c. search needs) (λ c κs. search needs) (λ c. search needs) returns)

@@ -24,16 +24,19 @@ loop-holds c = (omega arith, refl, no-piece _ _)
 loop-again : tie.Need-loop-again Inv-loop μ-loop
 unfolding rows joined
 loop-again c =
-    let r = c .before .before .put-row in
-    let l = c .before .before .before .before .before .before .before .before .loop in
-    let a = c .before .before .before .before .before .before .before .before .before .before .before .args in
+    let at-row = c .before .before in
+    let at-loop = at-row .before .before .before .before .before .before in
+    let a = at-loop .before .before .before .args in
+    let r = at-row .put-row in
+    let l = at-loop .loop in
     (omega arith, r .kept .0 ∙ l .inv .1, named-piece (ap (rows (now (a .list))) (sym (add-one (l .k)))) (then (l .inv .2) (r .ensures)))
 
 returns : tie.Need-returns Inv-loop μ-loop
 returns c =
-    let a = c .before .before .before .before .args in
-    let e : c .before .loop .k ≡ a .n = omega arith in
-    named-piece (ap (rows (now (a .list))) e) (c .before .loop .inv .2)
+    let at-loop = c .before in
+    let a = at-loop .before .before .before .args in
+    let e : at-loop .loop .k ≡ a .n = omega arith in
+    named-piece (ap (rows (now (a .list))) e) (at-loop .loop .inv .2)
 
 pub put-rows-spec : {M : Type 1} → statement M
 put-rows-spec =
