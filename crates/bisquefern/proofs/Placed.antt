@@ -8,57 +8,53 @@ use native.Mathlib.Omega.{arith}
 use lib.Dec.{ltb}
 use lib.Ieee.{Float}
 use borrow.Author.Tests.{ltb-true}
-use Rattle.real.specs.Refusal.{unevenBulges, badTrim}
+use Rattle.real.specs.Refusal.{badTrim}
 use Rattle.real.specs.Reply.{Reply, given}
+use Rattle.real.proofs.Replies.{same-given, check-passed}
 use Rattle.plane.specs.Grade.{double}
 use Rattle.plane.specs.declared.vector2.Vector2.{Vector2}
 use Rattle.plane.specs.declared.pline_vertex.PlineVertex.{PlineVertex}
 use Rattle.seg.proofs.HalfCircle.{double-sound}
 use Rattle.lists.specs.View.{turnView, trimView, part}
-use Rattle.view.specs.Outline.{countOf, srcOf}
-use Rattle.view.specs.Record.{viewOf, dataOf, vertices, evenBits}
+use Rattle.view.specs.Outline.{countOf}
+use Rattle.view.specs.Record.{turnedOf, trimmedOf, vertices}
 use Rattle.view.specs.Needs.{Placed}
 use Rattle.view.specs.Answers.{reverseOf, trimOf}
 use Rattle.view.specs.Create.{createOf, newStartOf}
 use Rattle.view.specs.declared.view_data.PlineViewData.{PlineViewData}
 use Rattle.view.proofs.All.{and-both}
-use Rattle.view.proofs.Checks.{check-passed, Checked, checked, checked-rest}
+use Rattle.view.proofs.Checks.{Checked, evened, even-rest}
 use Rattle.view.proofs.Made.{create-fine, new-start-fine}
 use Rattle.record.specs.Record.{recordBytes}
 use Rattle.lent.specs.Lent.{Answered}
 use Rattle.lent.specs.Values.{RecordAnswered}
 use Rattle.lent.proofs.Record.{placed-answered}
 
-pub same-given : {A : Type 0} {x y : A} → given y ≡ given x → x ≡ y
-same-given e = cc
-
 module _ (s : List Float) (d d′ : PlineViewData) where
   -- a reversal's answer, and a trim's: what was checked, and the record
   pub record Turned : Type 0 where
     pub clear : Checked double s d
-    pub is : dataOf (turnView (viewOf d)) ≡ d′
+    pub is : turnedOf d ≡ d′
 
   pub turned : given d′ ≡ reverseOf double s d → Turned
   unfolding reverseOf
   turned e =
-      let k = checked double s d _ e in
-      let even = check-passed {b = evenBits double d} unevenBulges (given (dataOf (turnView (viewOf d)))) (e ∙ checked-rest double s d _ k) in
-      record { clear = k; is = same-given (even .1) }
+      let v = evened double s d _ e in
+      record { clear = v .clear; is = same-given (sym (e ∙ even-rest double s d _ v)) }
 
   pub record Trimmed (i j : ℕ) : Type 0 where
     pub clear : Checked double s d
     pub below : i < j
     pub within : j < vertices d
-    pub is : dataOf (trimView (double .zero) (srcOf s) (countOf s) i j (viewOf d)) ≡ d′
+    pub is : trimmedOf double s d i j ≡ d′
 
   pub trimmed : (i j : ℕ) → given d′ ≡ trimOf double s d i j → Trimmed i j
   unfolding trimOf
   trimmed i j e =
-      let k = checked double s d _ e in
-      let even = check-passed {b = evenBits double d} unevenBulges _ (e ∙ checked-rest double s d _ k) in
-      let ends = check-passed {b = ltb i j && ltb j (vertices d)} badTrim (given (dataOf (trimView (double .zero) (srcOf s) (countOf s) i j (viewOf d)))) (even .1) in
+      let v = evened double s d _ e in
+      let ends = check-passed {b = ltb i j && ltb j (vertices d)} badTrim (given (trimmedOf double s d i j)) (e ∙ even-rest double s d _ v) in
       let both = and-both (ltb i j) _ (ends .0) in
-      record { clear = k; below = ltb-true _ _ (both .0); within = ltb-true _ _ (both .1); is = same-given (ends .1) }
+      record { clear = v .clear; below = ltb-true _ _ (both .0); within = ltb-true _ _ (both .1); is = same-given (sym (ends .1)) }
 
   pub turn-placed : given d′ ≡ reverseOf double s d → Placed s d′
   unfolding turnView

@@ -6,11 +6,12 @@ use native.Mathlib.Omega.{arith}
 use lib.ListN.{length, take, drop, drop-of-length-le}
 use lib.Seq.{take-at}
 use lib.Dec.{T, leb}
-use lib.Ieee.{Float, binary64, fits, ofBits}
-use lib.Ieee.Bits.{ofBits-fits, ofBits-toBits}
+use lib.Ieee.{Float, binary64, fits}
+use lib.Ieee.Bits.{ofBits-fits}
 use borrow.Author.Tests.{le-leb}
 use Rattle.real.specs.Refusal.{noRoom}
 use Rattle.real.specs.Reply.{Reply, refused, given}
+use Rattle.real.proofs.Replies.{same-given, check-passed}
 use Rattle.plane.specs.Grade.{double}
 use Rattle.plane.specs.Range.{mostVertices}
 use Rattle.lists.specs.Plain.{Vert, Step, turn, trim, flat}
@@ -23,8 +24,8 @@ use Rattle.view.specs.Answers.{reverseOf, trimOf, vertexCountOf, listOf, listBu
 use Rattle.view.specs.Rows.{after, step, row}
 use Rattle.view.specs.Demand3.{Unrefused, Even, Lists}
 use Rattle.view.specs.declared.view_data.PlineViewData.{PlineViewData}
-use Rattle.view.proofs.Checks.{check-passed, checked, checked-rest}
-use Rattle.view.proofs.Demand3.{demand3}
+use Rattle.view.proofs.Checks.{checked, checked-rest}
+use Rattle.view.proofs.Demand3.{same-bits, demand3}
 use Rattle.view.proofs.Shape.{list-count}
 use Rattle.record.specs.Bytes.{floatAt}
 use Rattle.record.specs.Record.{recordFrom, recordBytes}
@@ -32,7 +33,7 @@ use Rattle.record.proofs.Records.{record-length, read, from-small}
 use Rattle.lent.specs.Lent.{andThen, heldBy, lent, both, Answered}
 use Rattle.lent.specs.Values.{listReply}
 use Rattle.bisquefern.specs.Rows.{bytesAfter, Doubles, stepReply, bytesRow, BytesDemand3}
-use Rattle.bisquefern.proofs.Placed.{same-given, turned, trimmed}
+use Rattle.bisquefern.proofs.Placed.{turned, trimmed}
 
 -- a call on bytes b into a buffer that holds b leaves there the bytes in hand after it, whether it answers or refuses
 pub call-leaves : {b after : List ℕ} {n : ℕ} (r : Reply PlineViewData) → length b ≡ 64 → Answered recordBytes r b n after → after ≡ bytesAfter b r
@@ -64,7 +65,7 @@ module _ (s : List Float) where
         endBulge = ofBits-fits binary64 _;
         endX = ofBits-fits binary64 _;
         endY = ofBits-fits binary64 _;
-        even = λ z. let h = even z in sym (ofBits-toBits binary64 _ (h .first)) ∙ ap (ofBits binary64) (h .bits) ∙ ofBits-toBits binary64 _ (h .second);
+        even = λ z. same-bits double _ _ (even z);
       })
 
   turn-sound : (d d′ : PlineViewData) → Sound d → given d′ ≡ reverseOf double s d → Sound d′
@@ -112,7 +113,7 @@ module _ (s : List Float) where
       let answer : listOf double s d m ≡ given (length l) = h .answer m (omega arith) in
       let k = checked double s d _ (sym answer) in
       let room = check-passed {b = leb (needed d) m} noRoom (given (vertices d)) (sym answer ∙ checked-rest double s d _ k) in
-      let count : vertices d ≡ length l = same-given (room .1) in
+      let count : vertices d ≡ length l = same-given (sym (room .1)) in
       let counted : vertexCountOf double s d ≡ given (length l) = checked-rest double s d _ k ∙ ap given count in
       let buffer : flat (listed double s d) ++ drop (needed d) out ≡ out ++ drop m out =
       sym (ap (λ (r : Reply ℕ). bufferAfter r out (written double s d out)) (h .answer (length out) (omega arith))) ∙ h .buffer out (omega arith) in

@@ -1,12 +1,10 @@
 -- "Prove that no second answer fits": a promise's reply gives the code and what the buffer holds, and the root gives its reply.
-use mathlib.Core.Path.{_≡_, sym, ap, _∙_}
-use mathlib.Core.Bool.{true, false}
+use mathlib.Core.Path.{_≡_, sym, _∙_}
 use mathlib.Core.List.{List}
 use Prim.Native.Nat.{ℕ}
-use lib.Ieee.{Float, Format, binary64}
-use Rattle.real.specs.Reply.{Reply, refused, given}
-use Rattle.real.specs.Sqrt.{IsSqrt}
-use Rattle.real.proofs.Nearest.{only-root}
+use lib.Ieee.{Float, binary64}
+use Rattle.real.specs.Reply.{Reply}
+use Rattle.real.proofs.Only.{only-reply}
 use Rattle.lent.specs.Lent.{Left, Answered, Both, BothAnswered, RootAnswered}
 use Rattle.lent.proofs.Laws.{replies}
 
@@ -24,13 +22,6 @@ pub only-both : {A : Type 0} (values : A → Both) {reply : Reply A} {before aft
     → (n ≡ n′) × (after ≡ after′)
 only-both values p q = only-left p q
 
-one-reply : (f : Format) (x : Float) (r r′ : Reply Float) → IsSqrt f x r → IsSqrt f x r′ → r ≡ r′
-unfolding IsSqrt
-one-reply f x (given r) (given r′) p q = ap given (only-root f x r r′ (p .1) (q .1))
-one-reply f x (given r) (refused n) p q = let e : true ≡ false = sym (p .0) ∙ q .0 in cc
-one-reply f x (refused n) (given r) p q = let e : false ≡ true = sym (p .0) ∙ q .0 in cc
-one-reply f x (refused n) (refused m) p q = ap refused (p .1 ∙ sym (q .1))
-
 -- and of square root, which is stated by what a root is
 pub only-root-answered : {x : Float} {before after after′ : List Float} {n n′ : ℕ} → RootAnswered x before n after → RootAnswered x before n′ after′ → (n ≡ n′) × (after ≡ after′)
-only-root-answered {x} p q = only-left (replies (one-reply binary64 x (p .reply) (q .reply) (p .root) (q .root)) (p .answered)) (q .answered)
+only-root-answered {x} p q = only-left (replies (only-reply binary64 x (p .reply) (q .reply) (p .root) (q .root)) (p .answered)) (q .answered)

@@ -37,7 +37,7 @@ neg-neg (inf false) = refl
 neg-neg (fin true m e) = refl
 neg-neg (fin false m e) = refl
 
-same-bits : (g : Grade) (x y : Float) → SameBits g x y → x ≡ y
+pub same-bits : (g : Grade) (x y : Float) → SameBits g x y → x ≡ y
 same-bits g x y h = sym (ofBits-toBits (g .format) x (h .first)) ∙ ap (ofBits (g .format)) (h .bits) ∙ ofBits-toBits (g .format) y (h .second)
 
 module _ (g : Grade) where

@@ -114,7 +114,7 @@ module _ (g : Grade) (s : List Float) (p : Vector2) (eps : Float) (a : Asked g s
         (λ _. made k (split .«split_vertex») (ending (countOf s) (split .«updated_start» .bulge)) h (split-in k h .1) (omega arith) (record { bulge-ok = bulge-in g _ (split-in k h .0); even = λ z. absurd (omega arith) }))
 
 module _ (g : Grade) (sound : Sound g) (limit : Float) (s : List Float) (p : Vector2) (eps : Float) (d : PlineViewData) where
-  create-fine : (start at : ℕ) (first : PlineVertex) (traverse : ℕ) → createOf g limit s start p at first traverse eps ≡ given d → Fine g s d
+  pub create-fine : (start at : ℕ) (first : PlineVertex) (traverse : ℕ) → createOf g limit s start p at first traverse eps ≡ given d → Fine g s d
   unfolding createOf
   create-fine start at first traverse q =
       let o = check-passed badOutline _ (sym q) in
@@ -129,7 +129,7 @@ module _ (g : Grade) (sound : Sound g) (limit : Float) (s : List Float) (p : Vec
       ended-fine g s p eps a start first _ d (ltb-true _ _ (b .0)) (n₂ .1)
       (ends g s p eps a sound limit at (first .bulge) traverse (ltb-true _ _ (b .1)) (bulge-in g first (n₂ .1)) (ltb-true _ _ (c .0))) (i .1)
 
-  new-start-fine : (closed : Bool) (start : ℕ) → newStartOf g limit s closed p start eps ≡ given d → Fine g s d
+  pub new-start-fine : (closed : Bool) (start : ℕ) → newStartOf g limit s closed p start eps ≡ given d → Fine g s d
   unfolding newStartOf
   new-start-fine closed start q =
       let o = check-passed badOutline _ (sym q) in
