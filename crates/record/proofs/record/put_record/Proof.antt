@@ -2,7 +2,7 @@
 use native.Mathlib.Omega.{arith}
 use borrow.Author.Needs.{needs}
 use Rattle.record.specs.Record.{recordBytes}
-use Rattle.text.proofs.Writing.{next}
+use Rattle.text.proofs.Writing.{wrotes, five}
 use Rattle.record.proofs.record.put_record.Statement.{statement}
 use Rattle.record.proofs.record.put_record.Tie as tie
 
@@ -14,7 +14,7 @@ returns c =
     let at-bulge = at-point .before .before .before .before in
     let at-vertex = at-bulge .before .before .before .before in
     let at-place = at-vertex .before .before .before .before in
-    (next (next (next (next (at-place .put-place .ensures .0) (at-vertex .put-vertex .ensures .0)) (at-bulge .put-pattern .ensures .0)) (at-point .put-point .ensures .0)) (at-end .put-end .ensures .0), omega arith)
+    (five wrotes (at-place .put-place .ensures .0) (at-vertex .put-vertex .ensures .0) (at-bulge .put-pattern .ensures .0) (at-point .put-point .ensures .0) (at-end .put-end .ensures .0), omega arith)
 
 pub put-record-spec : {M : Type 1} → statement M
 put-record-spec =
