@@ -1,6 +1,6 @@
 #!/bin/sh
-# Holds docs/PROMISES.md to the crates: each quoted line stands in the file that is named above it, each file and each edit that is
-# named is there, and each edit that is there is named.
+# Holds docs/PROMISES.md to the crates: each quoted line stands in the file that is named above it, each file and each wrong answer that is
+# named is there, and no row names one wrong answer alone.
 set -eu
 cd "$(dirname "$0")/../.."
 page=docs/PROMISES.md
@@ -17,15 +17,16 @@ wrong=$(
     grep -oE '[a-z0-9_]+/(specs|proofs|src)/[A-Za-z0-9_/]+\.(antt|rt)' "$page" | sort -u | while read -r file; do
         [ -f "crates/$file" ] || echo "$page names crates/$file, which is not there"
     done
-    # an edit is named as CRATE/EDIT
+    # a wrong answer is named as CRATE/NAME, and stands in a file of the crate's folder must-fail behind a line '# NAME: ..'
     named=$(tr -c 'a-z0-9_/.' '\n' <"$page" | sed 's/\.*$//' | grep -E '^[a-z0-9_]+/[a-z0-9_]+$' | sort -u)
     for one in $named; do
-        [ ! -d "crates/${one%/*}" ] || [ -f "crates/${one%/*}/must-fail/${one#*/}.edit" ] || echo "$page names the edit $one, which is not there"
+        [ ! -d "crates/${one%/*}" ] || grep -qE "^# ${one#*/}: " "crates/${one%/*}"/must-fail/*.edit 2>/dev/null ||
+            echo "$page names the wrong answer $one, which no edit has"
     done
-    for edit in crates/*/must-fail/*.edit; do
-        crate=${edit#crates/}
-        one=${crate%%/*}/$(basename "$edit" .edit)
-        printf '%s\n' "$named" | grep -qxF -- "$one" || echo "$page does not name the edit $one"
+    # of a call, in a row of demand 2's tables, two or more are named
+    awk '/^\*\*2\./ { on = 1 } /^\*\*3\./ { on = 0 } on && /^\|/' "$page" | while read -r row; do
+        few=$(printf '%s\n' "$row" | tr -c 'a-z0-9_/.' '\n' | grep -cE '^[a-z0-9_]+/[a-z0-9_]+$' || true)
+        [ "$few" -ne 1 ] || echo "$page names one wrong answer alone: $row"
     done
 )
 if [ -n "$wrong" ]; then
