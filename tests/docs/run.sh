@@ -1,6 +1,6 @@
 #!/bin/sh
 # Holds docs/PROMISES.md to the crates: each quoted line stands in the file that is named above it, each file and each wrong answer that is
-# named is there, and no row names one wrong answer alone.
+# named is there, and two or more are named for each call.
 set -eu
 cd "$(dirname "$0")/../.."
 page=docs/PROMISES.md
@@ -23,11 +23,16 @@ wrong=$(
         [ ! -d "crates/${one%/*}" ] || grep -qE "^# ${one#*/}: " "crates/${one%/*}"/must-fail/*.edit 2>/dev/null ||
             echo "$page names the wrong answer $one, which no edit has"
     done
-    # of a call, in a row of demand 2's tables, two or more are named
-    awk '/^\*\*2\./ { on = 1 } /^\*\*3\./ { on = 0 } on && /^\|/' "$page" | while read -r row; do
-        few=$(printf '%s\n' "$row" | tr -c 'a-z0-9_/.' '\n' | grep -cE '^[a-z0-9_]+/[a-z0-9_]+$' || true)
-        [ "$few" -ne 1 ] || echo "$page names one wrong answer alone: $row"
-    done
+    # of each call in demand 2's tables two or more are named: a row's last column has a group for each, parted by ;
+    awk -F'|' '
+        /^\*\*2\./ { on = 1 }
+        /^\*\*3\./ { on = 0 }
+        on && /^\| .*`/ {
+            calls = split($2, call, ";")
+            groups = split($(NF - 1), group, ";")
+            if (calls != groups) print "calls and groups of wrong answers differ in number:" $0
+            for (i = 1; i <= groups; i++) if (gsub(/[a-z0-9_]+\/[a-z0-9_]+/, "", group[i]) < 2) print "fewer than two wrong answers of" call[i]
+        }' "$page" | sed "s|^|$page: |"
 )
 if [ -n "$wrong" ]; then
     printf '%s\n' "$wrong" >&2
