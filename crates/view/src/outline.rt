@@ -27,7 +27,8 @@ pub fn fwd_wrapping_index(start: usize, offset: usize, count: usize) -> usize
     requires { ⌜ Wraps start offset count ⌝ }
     ensures { λ r. ⌜ Numbers (wrapped start offset count) count r ⌝ }
 {
-    (start + offset) % count
+    let k = start + offset;
+    if k >= count { k - count } else { k }
 }
 
 // The vertex that lies `steps` places past vertex k, wrapping.
