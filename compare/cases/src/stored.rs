@@ -61,11 +61,13 @@ pub fn roots() -> Vec<Case> {
     cases
 }
 
+/// Document 01's outline Q.
+pub const Q: [f64; 12] = [0.0, 0.0, 0.0, 4.0, 0.0, 0.5, 4.0, 4.0, 0.0, 0.0, 4.0, 0.0];
+
 /// The cases that document 01 checked by hand, the roots aside.
 fn by_hand() -> Vec<Case> {
     let h = [0.0, 0.0, 1.0, 1.0, 0.0, 0.0];
     let p4 = [2.0, 2.0, 1.0, 4.0, 2.0, 0.0];
-    let q = [0.0, 0.0, 0.0, 4.0, 0.0, 0.5, 4.0, 4.0, 0.0, 0.0, 4.0, 0.0];
     let r = PlineViewData {
         start_index: 0,
         end_index_offset: 2,
@@ -110,7 +112,7 @@ fn by_hand() -> Vec<Case> {
         let case = seg(Call::SegTangentVector, &p4);
         case.number(x).number(y).room(2)
     };
-    let on_q = |call, record: &PlineViewData| Case::new(call).numbers(&q).bytes(&encode(record));
+    let on_q = |call, record: &PlineViewData| Case::new(call).numbers(&Q).bytes(&encode(record));
     let validate = |record: &PlineViewData| on_q(Call::ViewValidate, record).room(3).room(5);
     let list = |record: &PlineViewData| on_q(Call::ViewList, record).room(12).room(1);
     vec![
@@ -202,9 +204,31 @@ fn drawn() -> Vec<Case> {
     cases
 }
 
+/// Q's four vertices once round from the middle of each segment, in both directions: looked up at the positions 3, 4
+/// and 5, one less than the vertex count, the count and one more; trimmed to begin at 3 and at 4; listed; validated.
+pub fn round() -> Vec<Case> {
+    let mut cases = Vec::new();
+    for (start, inverted_direction) in (0..4).flat_map(|start| [(start, false), (start, true)]) {
+        let record = PlineViewData {
+            inverted_direction,
+            ..whole_view(&Q, start)
+        };
+        let on_q = |call| Case::new(call).numbers(&Q).bytes(&encode(&record));
+        for position in [3, 4, 5] {
+            cases.push(on_q(Call::ViewGet).whole(position).room(3));
+        }
+        for i in [3, 4] {
+            cases.push(on_q(Call::ViewTrim).whole(i).whole(5).room(64));
+        }
+        cases.push(on_q(Call::ViewList).room(18).room(1));
+        cases.push(on_q(Call::ViewValidate).room(3).room(5));
+    }
+    cases
+}
+
 /// The whole stored list.
 pub fn all() -> Vec<Case> {
-    [roots(), by_hand(), drawn(), long()].concat()
+    [roots(), by_hand(), drawn(), long(), round()].concat()
 }
 
 /// A list's stored form, and the oracle's answers to it.

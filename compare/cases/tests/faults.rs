@@ -32,6 +32,8 @@ enum Fault {
     SubnormalRootsAnUlpOff,
     TiedRootsRoundedUp,
     StartNotWrapped,
+    StartEqualToTheCountNotWrapped,
+    WrappedStartOneTooHigh,
     OpenOutlinesHeld,
     EqualNumbersNotExchanged,
     SplitAtTheEndOnThePoint,
@@ -318,12 +320,19 @@ impl Library for Spoilt {
 
     fn view_trim(&self, outline: &[f64], bytes: &[u8], i: u64, j: u64, out: &mut [u8]) -> u8 {
         let refusal = Oracle.view_trim(outline, bytes, i, j, out);
-        if refusal == 0 && self.is(Fault::StartNotWrapped) {
+        if refusal == 0 {
             let record = record::decode(bytes).unwrap();
             let start = if record.inverted_direction {
                 record.start_index + record.end_index_offset + 1 - j as usize
             } else {
                 record.start_index + i as usize
+            };
+            let count = outline.len() / 3;
+            let start = match self.0 {
+                Fault::StartNotWrapped => start,
+                Fault::StartEqualToTheCountNotWrapped if start == count => start,
+                Fault::WrappedStartOneTooHigh if start >= count => start - (count - 1),
+                _ => return refusal,
             };
             out[..4].copy_from_slice(&(start as u32).to_le_bytes());
         }
@@ -368,6 +377,8 @@ fn each_fault_is_found() {
         Fault::SubnormalRootsAnUlpOff,
         Fault::TiedRootsRoundedUp,
         Fault::StartNotWrapped,
+        Fault::StartEqualToTheCountNotWrapped,
+        Fault::WrappedStartOneTooHigh,
         Fault::OpenOutlinesHeld,
         Fault::EqualNumbersNotExchanged,
         Fault::SplitAtTheEndOnThePoint,

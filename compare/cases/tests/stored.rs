@@ -3,7 +3,7 @@
 
 use cases::case::Call;
 use cases::repository;
-use cases::stored::{all, files, roots};
+use cases::stored::{Q, all, files, roots, round};
 use oracle::Oracle;
 use oracle::sheet::sheet_text;
 use std::fs;
@@ -58,6 +58,34 @@ fn the_list_covers_every_call_and_refusal() {
         for refusal in call.refusals() {
             assert!(given.contains(refusal), "{call:?} {refusal}");
         }
+    }
+}
+
+/// The lookups once round Q, by hand: from the middle of segment `start` its four vertices follow, then the middle again.
+#[test]
+fn the_list_goes_round() {
+    const ROUND: [usize; 8] = [0, 1, 2, 3, 0, 1, 2, 3];
+    const MIDDLES: [[f64; 2]; 4] = [[2.0, 0.0], [5.0, 2.0], [2.0, 4.0], [0.0, 2.0]];
+    let cases = round();
+    assert_eq!(all()[all().len() - cases.len()..], cases);
+
+    let lookups = |view: usize| {
+        let lookup = |k: usize| cases[7 * view + k].run(&Oracle).written(Call::ViewGet);
+        [0, 1, 2].map(|k| [0, 1].map(|place| f64::from_bits(lookup(k)[place])))
+    };
+    let vertex = |number: usize| [Q[3 * number], Q[3 * number + 1]];
+    for start in 0..4 {
+        let middle = MIDDLES[start];
+        let (third, fourth) = (ROUND[start + 3], ROUND[start + 4]);
+        let forward = [vertex(third), vertex(fourth), middle];
+        assert_eq!(lookups(2 * start), forward, "from segment {start}");
+        let (second, first) = (ROUND[start + 2], ROUND[start + 1]);
+        let inverted = [vertex(second), vertex(first), middle];
+        assert_eq!(
+            lookups(2 * start + 1),
+            inverted,
+            "back from segment {start}"
+        );
     }
 }
 
