@@ -2,7 +2,7 @@
 
 use crate::checks::{MOST_VERTICES, check, outline_in_range};
 use crate::record::{RECORD_BYTES, f64_at, fields, u32_at, well_formed};
-use crate::view::{Outline, validate_in, verdict_number, vertices};
+use crate::view::{Outline, is_cut, validate_in, verdict_number, vertices};
 use crate::{AABB, PlineVertex, refusal};
 use cavalier_contours::polyline::{PlineSource, seg_bounding_box, seg_fast_approx_bounding_box};
 use std::io::{self, Write};
@@ -131,7 +131,7 @@ impl<'a> Sheet<'a> {
             let record = fields(record);
             match validate_in(&outline, &record) {
                 Err(refusal) => writeln!(out, "view {k} refused {refusal}")?,
-                Ok(verdict) if verdict_number(&verdict) == 7 => {
+                Ok(verdict) if is_cut(&outline, &record, &verdict) => {
                     writeln!(out, "view {k} 7 cut {}", record.end_index_offset + 2)?;
                     for (position, vertex) in vertices(&outline, record).enumerate() {
                         write_vertex(out, position, vertex)?;

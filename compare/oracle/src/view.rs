@@ -144,10 +144,27 @@ pub fn verdict_number(verdict: &ViewDataValidation<f64>) -> u8 {
     }
 }
 
-/// The mark: cut exactly when the verdict is 7, on open and closed outlines alike.
-pub fn mark(outline: &[f64], _closed: bool, record: &PlineViewData) -> Result<bool, u8> {
+/// The mark: cut when the verdict is 7, except across the gap of an open outline.
+pub fn mark(outline: &[f64], closed: bool, record: &PlineViewData) -> Result<bool, u8> {
     let verdict = validate(outline, record)?;
-    Ok(verdict_number(&verdict) == 7)
+    let source = Outline::new(outline, closed, 0)?;
+    Ok(is_cut(&source, record, &verdict))
+}
+
+/// Whether a view with this verdict is cut: on an open outline the segments that it uses are gone through one by one, and
+/// the one from the last vertex to the first, which is not there, must not be among them.
+pub(crate) fn is_cut(
+    source: &Outline,
+    record: &PlineViewData,
+    verdict: &ViewDataValidation<f64>,
+) -> bool {
+    if verdict_number(verdict) != 7 {
+        return false;
+    }
+    let missing = source.vertex_count() - 1;
+    let mut used = (0..=record.end_index_offset)
+        .map(|steps| source.fwd_wrapping_index(record.start_index, steps));
+    source.is_closed() || used.all(|segment| segment != missing)
 }
 
 /// The checks that count, list, reversal and trim share: 3, 1, 5, 4.

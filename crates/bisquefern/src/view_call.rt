@@ -102,7 +102,7 @@ pub extern "C" fn bf_view_validate(
 // 1 for cut, 0 for hold. 11, 12, 3, 1, 4, 8.
 #[no_mangle]
 pub extern "C" fn bf_view_mark(outline: &[f64], closed: u8, bytes: &[u8], out: &mut [u8]) -> u8
-    ensures { λ r. ⌜ Answered markByte (ofRecord (now (bytes .entry)) (λ d. markAnswer (isClosed closed) (validateOf double (double .line) (now (outline .entry)) d))) (now (out .entry)) r (now (out .exit)) ⌝ }
+    ensures { λ r. ⌜ Answered markByte (ofRecord (now (bytes .entry)) (λ d. markAnswer (isClosed closed) (now (outline .entry)) d (validateOf double (double .line) (now (outline .entry)) d))) (now (out .entry)) r (now (out .exit)) ⌝ }
 {
     let decoded = record_from_bytes(bytes);
     match decoded {

@@ -31,19 +31,19 @@ module _ (closed : Bool) (s : List Float) (d : PlineViewData) (k : ℕ) (l : Lis
   unfolding viewBuffer verdictBuffer
   refused-buffer n e = ap (verdictBuffer closed s d l) (sym e)
 
-  pub given-text : (v : Verdict) (n : ℕ) (m : MarkCase) → validateOf double (double .line) s d ≡ given v → n ≡ v .number → m ≡ markOf closed v → markText s d k n m ≡ viewText closed s k d
+  pub given-text : (v : Verdict) (n : ℕ) (m : MarkCase) → validateOf double (double .line) s d ≡ given v → n ≡ v .number → m ≡ markOf closed s d v → markText s d k n m ≡ viewText closed s k d
   unfolding viewText verdictText
   given-text v n m e p q = ap₂ (markText s d k) p q ∙ ap (verdictText closed s d k) (sym e)
 
-  pub given-buffer : (v : Verdict) (m : MarkCase) → validateOf double (double .line) s d ≡ given v → m ≡ markOf closed v → markBuffer s d l m ≡ viewBuffer closed s d l
+  pub given-buffer : (v : Verdict) (m : MarkCase) → validateOf double (double .line) s d ≡ given v → m ≡ markOf closed s d v → markBuffer s d l m ≡ viewBuffer closed s d l
   unfolding viewBuffer verdictBuffer
   given-buffer v m e q = ap (markBuffer s d l) q ∙ ap (verdictBuffer closed s d l) (sym e)
 
 -- ---- a cut view lists
 
-pub cut-lists : (closed : Bool) (s : List Float) (d : PlineViewData) (v : Verdict) → validateOf double (double .line) s d ≡ given v → cut ≡ markOf closed v → Lists s d listNumbers
+pub cut-lists : (closed : Bool) (s : List Float) (d : PlineViewData) (v : Verdict) → validateOf double (double .line) s d ≡ given v → cut ≡ markOf closed s d v → Lists s d listNumbers
 cut-lists closed s d v e q =
-    let mark : markAnswer closed (validateOf double (double .line) s d) ≡ given cut = ap (markAnswer closed) e ∙ ap given (sym q) in
+    let mark : markAnswer closed s d (validateOf double (double .line) s d) ≡ given cut = ap (markAnswer closed s d) e ∙ ap given (sym q) in
     let placed = cut-clear closed double (double .line) s d (cut-says closed double (double .line) s d mark) .placed in
     let room : needed d ≤ listNumbers = omega (arith, placed .few, placed .offset) in
     record { list = lists closed double (double .line) s d mark listNumbers room; few = omega (arith, placed .few, placed .offset); room = room }

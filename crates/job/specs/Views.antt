@@ -24,7 +24,7 @@ markText s d k number hold = viewLine k number hold 0
 -- "A refused view prints `view k refused N`"
 unfoldable pub verdictText : Bool → List Float → PlineViewData → ℕ → Reply Verdict → List ℕ
 verdictText closed s d k (refused n) = viewHead k ++ refusedLine n
-verdictText closed s d k (given v) = markText s d k (v .number) (markOf closed v)
+verdictText closed s d k (given v) = markText s d k (v .number) (markOf closed s d v)
 
 -- view k, with the record d, over the outline s
 unfoldable pub viewText : Bool → List Float → ℕ → PlineViewData → List ℕ
@@ -38,7 +38,7 @@ markBuffer s d l hold = l
 
 unfoldable pub verdictBuffer : Bool → List Float → PlineViewData → List Float → Reply Verdict → List Float
 verdictBuffer closed s d l (refused n) = l
-verdictBuffer closed s d l (given v) = markBuffer s d l (markOf closed v)
+verdictBuffer closed s d l (given v) = markBuffer s d l (markOf closed s d v)
 
 unfoldable pub viewBuffer : Bool → List Float → PlineViewData → List Float → List Float
 viewBuffer closed s d l = verdictBuffer closed s d l (validateOf double (double .line) s d)

@@ -102,7 +102,7 @@ fn put_marked(
     ensures { λ r. ⌜ (views.Part (now (out .entry)) (views.viewText closed (now (outline .entry)) k d) (now (out .exit)) r) × (now (list .exit) ≡ views.viewBuffer closed (now (outline .entry)) d (now (list .entry))) ⌝ }
 {
     let number = verdict.number() as usize;
-    let mark = verdict.mark(closed);
+    let mark = verdict.mark(d, outline, closed);
     match mark {
         Mark::Cut => put_cut(outline, d, k, number, list, out),
         Mark::Hold => put_view_line(out, k, number, Mark::Hold, 0),

@@ -5,3 +5,4 @@ pub mod Lists
 pub mod Views
 pub mod Good
 pub mod Listing
+pub mod Along

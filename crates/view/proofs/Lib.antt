@@ -1,4 +1,4 @@
--- Laws of tests over an outline and of the checks, and the theorems: Demand3, Same, Shape, Table, Cut, Made.
+-- Laws of tests over an outline and of the checks, and the theorems: Demand3, Same, Shape, Table, Cut, OpenOutline, Made.
 pub mod All
 pub mod Checks
 pub mod Demand3
@@ -6,4 +6,5 @@ pub mod Same
 pub mod Shape
 pub mod Table
 pub mod Cut
+pub mod OpenOutline
 pub mod Made

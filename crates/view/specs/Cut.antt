@@ -1,8 +1,8 @@
--- What a mark of cut says, in document 01's words. proofs/Cut.antt proves that it says exactly this.
+-- What a mark of cut says, in the words of document 01 and of the rule for open outlines. proofs/Cut.antt proves that it says exactly this.
 use mathlib.Core.Path.{_≡_}
-use mathlib.Core.Bool.{true, false}
+use mathlib.Core.Bool.{Bool, true, false}
 use mathlib.Core.List.{List}
-use Prim.Native.Nat.{_<_, _≤_}
+use Prim.Native.Nat.{_+_, _-_, _<_, _≤_}
 use lib.ListN.{length}
 use lib.Ieee.{Float}
 use Rattle.plane.specs.Grade.{Grade}
@@ -16,7 +16,7 @@ use Rattle.view.specs.Segment.{onOutline}
 use Rattle.view.specs.Validation.{bulgesMatch}
 use Rattle.view.specs.declared.view_data.PlineViewData.{PlineViewData}
 
-pub record Cut (g : Grade) (limit : Float) (s : List Float) (d : PlineViewData) : Type 0 where
+pub record Cut (closed : Bool) (g : Grade) (limit : Float) (s : List Float) (d : PlineViewData) : Type 0 where
   -- the outline is whole vertices, and every number is in range
   pub whole : wholeOutline (length s) ≡ true
   pub outline : numbersOk g s ≡ true
@@ -32,3 +32,5 @@ pub record Cut (g : Grade) (limit : Float) (s : List Float) (d : PlineViewData) 
   pub apart : vnearOf g (d .«end_point») (posOf (vertexOf s (wrapped (d .«start_index») (d .«end_index_offset») (countOf s)))) (g .onVertex) ≡ false
   -- on one segment the two bulges match
   pub bulges : bulgesMatch g d ≡ true
+  -- on an open outline it ends before the last vertex: start index plus offset does not reach the vertex count less 1
+  pub gap : closed ≡ false → d .«start_index» + d .«end_index_offset» < countOf s - 1

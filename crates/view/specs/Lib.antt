@@ -10,4 +10,5 @@ pub mod Rows
 pub mod Demand3
 pub mod Cases
 pub mod Cut
+pub mod OpenOutline
 pub mod Table

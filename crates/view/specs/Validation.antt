@@ -1,8 +1,8 @@
 -- The crate's `validate_for_source`: "Validation answers one of seven verdicts, numbered 1 to 7 in the order of `ViewDataValidation`, each carrying the points, bulges or counts that the crate puts there."
 use mathlib.Core.Bool.{Bool, true, cond, not, _&&_}
 use mathlib.Core.List.{List, [], _∷_}
-use Prim.Native.Nat.{ℕ}
-use lib.Dec.{ltb, eqb}
+use Prim.Native.Nat.{ℕ, _+_, _-_}
+use lib.Dec.{ltb, leb, eqb}
 use lib.ListN.{length}
 use lib.Ieee.{Float}
 use Rattle.real.specs.Refusal.{badNumber, badOutline, badIndex}
@@ -121,11 +121,15 @@ abbrev pub markReply : MarkAnswer → Reply MarkCase
 markReply (mark.Given m) = given (markCase m)
 markReply (mark.Refused n) = refused n
 
--- "a view is cut exactly when its verdict is 7, on open and closed outlines alike; otherwise it is hold"
-unfoldable pub markOf : Bool → Verdict → MarkCase
-markOf closed v = cond (eqb (v .number) 7) cut hold
+-- "On an open outline [...] when start index plus offset reaches the vertex count less 1 or more": the sum is not wrapped
+unfoldable pub acrossGap : Bool → List Float → PlineViewData → Bool
+acrossGap closed s d = not closed && leb (countOf s - 1) (d .«start_index» + d .«end_index_offset»)
+
+-- "a view is cut exactly when its verdict is 7; otherwise it is hold", and across the gap it "is hold also"; "The verdict stays the crate's."
+unfoldable pub markOf : Bool → List Float → PlineViewData → Verdict → MarkCase
+markOf closed s d v = cond (eqb (v .number) 7) (cond (acrossGap closed s d) hold cut) hold
 
 -- the mark of a verdict that is not refused
-abbrev pub markAnswer : Bool → Reply Verdict → Reply MarkCase
-markAnswer closed (refused n) = refused n
-markAnswer closed (given v) = given (markOf closed v)
+abbrev pub markAnswer : Bool → List Float → PlineViewData → Reply Verdict → Reply MarkCase
+markAnswer closed s d (refused n) = refused n
+markAnswer closed s d (given v) = given (markOf closed s d v)

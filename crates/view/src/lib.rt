@@ -2,6 +2,7 @@
 mod check;
 mod create;
 mod ending;
+mod gap;
 mod list;
 mod lookup;
 mod new_start;

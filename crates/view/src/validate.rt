@@ -115,11 +115,11 @@ impl PlineViewData {
 
     // Whether the view is cut or held.
     pub fn mark(self, source: &[f64], closed: bool) -> MarkAnswer
-        ensures { λ r. ⌜ markReply r ≡ markAnswer closed (validateOf double (double .line) (now (source .entry)) self) ⌝ }
+        ensures { λ r. ⌜ markReply r ≡ markAnswer closed (now (source .entry)) self (validateOf double (double .line) (now (source .entry)) self) ⌝ }
     {
         let answer = self.validate_for_source(source);
         match answer {
-            ValidationAnswer::Given(verdict) => MarkAnswer::Given(verdict.mark(closed)),
+            ValidationAnswer::Given(verdict) => MarkAnswer::Given(verdict.mark(self, source, closed)),
             ValidationAnswer::Refused(n) => MarkAnswer::Refused(n),
         }
     }

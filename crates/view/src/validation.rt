@@ -1,4 +1,6 @@
 // The crate's `ViewDataValidation`, and the mark that comes of it.
+use crate::gap::is_across_gap;
+use crate::view_data::PlineViewData;
 use plane::PlineVertex;
 use plane::Vector2;
 ghost use mathlib.Core.Path.{_≡_};
@@ -67,14 +69,16 @@ impl ViewDataValidation {
         }
     }
 
-    // Whether a view with this verdict is cut.
-    pub fn mark(self, closed: bool) -> Mark
-        ensures { λ r. ⌜ markCase r ≡ markOf closed (verdictOf self) ⌝ }
+    // Whether a view with this verdict over an outline is cut.
+    pub fn mark(self, d: PlineViewData, source: &[f64], closed: bool) -> Mark
+        ensures { λ r. ⌜ markCase r ≡ markOf closed (now (source .entry)) d (verdictOf self) ⌝ }
     {
-        if self.number() == 7 {
-            Mark::Cut
-        } else {
-            Mark::Hold
+        if self.number() != 7 {
+            return Mark::Hold;
         }
+        if is_across_gap(d, source, closed) {
+            return Mark::Hold;
+        }
+        Mark::Cut
     }
 }

@@ -1,6 +1,7 @@
 -- The verdict's mark, or its refusal.
 use mathlib.Core.Path.{sym, ap, _∙_}
 use borrow.Author.Needs.{needs}
+use denote.Ref.{now}
 use Rattle.real.specs.Reply.{given}
 use Rattle.view.specs.Validation.{markAnswer, validationReply}
 use Rattle.view.proofs.view_data.PlineViewData.mark.Statement.{statement}
@@ -9,14 +10,14 @@ use Rattle.view.proofs.view_data.PlineViewData.mark.Tie as tie
 returns : tie.Need-returns
 returns c =
     let call = c .before .before .before .before in
-    let closed = call .before .before .args .closed in
-    ap given (c .mark .ensures) ∙ ap (markAnswer closed) (ap validationReply (sym (c .before .before .answer .given .1)) ∙ call .validate-for-source .ensures)
+    let a = call .before .before .args in
+    ap given (c .mark .ensures) ∙ ap (markAnswer (a .closed) (now (a .source)) (a .self)) (ap validationReply (sym (c .before .before .answer .given .1)) ∙ call .validate-for-source .ensures)
 
 returns-2 : tie.Need-returns-2
 returns-2 c =
     let call = c .before .before .before in
-    let closed = call .before .before .args .closed in
-    ap (markAnswer closed) (ap validationReply (sym (c .before .answer2 .given .1)) ∙ call .validate-for-source .ensures)
+    let a = call .before .before .args in
+    ap (markAnswer (a .closed) (now (a .source)) (a .self)) (ap validationReply (sym (c .before .answer2 .given .1)) ∙ call .validate-for-source .ensures)
 
 pub mark-spec : {M : Type 1} → statement M
 mark-spec = tie.close (tie.spec (λ c κs. tt) (λ c. search needs) (λ c κs. tt) (λ c. search needs) returns returns-2)
