@@ -87,7 +87,7 @@ def show_row(text, k):
     text.show(f"{k} {text.decimals(floats)}")
 
 
-def show_view(text, k, vertices):
+def show_view(text, k, vertices, kind):
     what = f"'view {k} VERDICT cut|hold COUNT' or 'view {k} refused N'"
     view, verdict, mark, count, refusal = text.line(f"view {COUNT} (?:{COUNT} (cut|hold) {COUNT}|refused {COUNT})", what)
     text.check(view == str(k), what)
@@ -98,12 +98,16 @@ def show_view(text, k, vertices):
         return
     text.check(verdict in VERDICTS, "a verdict from 1 to 7")
     text.check((verdict == "1") == (vertices < 2), "verdict 1 exactly where there are under 2 vertices")
-    text.check((verdict == "7") == (mark == "cut"), "cut exactly where the verdict is 7")
+    text.check(verdict == "7" or mark == "hold", "hold where the verdict is not 7")
+    text.check(verdict != "7" or mark == "cut" or kind == "open", "cut where the verdict is 7 and the outline closed")
+    why = VERDICTS[verdict]
     if mark == "hold":
         text.check(count == "0", "count 0 for a view that is held")
+        why += ", but across the gap" if verdict == "7" else ""
     else:
-        text.check(2 <= int(count) <= vertices + 2, f"a count from 2 to {vertices + 2}")
-    text.show(f"view {k} {verdict} {mark} {count} ({VERDICTS[verdict]})")
+        most = vertices + 2 if kind == "closed" else vertices
+        text.check(2 <= int(count) <= most, f"a count from 2 to {most}")
+    text.show(f"view {k} {verdict} {mark} {count} ({why})")
     for position in range(int(count)):
         show_row(text, position)
 
@@ -131,7 +135,7 @@ def show_sheet(text):
     text.show(f"outline {vertices} {views} {kind}")
     show_box(text, vertices)
     for k in range(views):
-        show_view(text, k, vertices)
+        show_view(text, k, vertices, kind)
 
 
 def show(path=None):

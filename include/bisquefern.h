@@ -124,7 +124,8 @@ uint8_t bf_view_validate(const double *outline, size_t outline_len, const void *
                          uint64_t *whole, size_t whole_len, double *out, size_t out_len);
 
 /* 1 for cut, where the verdict is BF_VALID, else 0 for hold: 1 byte. `closed` is 0 for an open outline, any other number
- * for a closed one; both kinds are marked alike. 11, 12, 3, 1, 4, 8. */
+ * for a closed one. On an open outline a view whose start index plus offset is the vertex count less 1 or more is held too:
+ * nothing runs from the last vertex back to the first. 11, 12, 3, 1, 4, 8. */
 uint8_t bf_view_mark(const double *outline, size_t outline_len, uint8_t closed, const void *record, size_t record_len,
                      uint8_t *out, size_t out_len);
 

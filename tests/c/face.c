@@ -212,6 +212,11 @@ static void call_judges(void)
     say("mark R", BYTE, 1, bf_view_mark(Q, 12, 1, at(&R), 64, out, 1));
     say("mark R, open", BYTE, 1, bf_view_mark(Q, 12, 0, at(&R), 64, out, 1));
     say("mark R to (5,2) on the arc", BYTE, 1, bf_view_mark(Q, 12, 1, altered(1, 5, 2, 0.236), 64, out, 1));
+    say("mark R over the last side", BYTE, 1, bf_view_mark(Q, 12, 1, altered(3, 0, 2, 0), 64, out, 1));
+    say("the same, closed 255", BYTE, 1, bf_view_mark(Q, 12, 255, at(&r), 64, out, 1));
+    say("the same, open", BYTE, 1, bf_view_mark(Q, 12, 0, at(&r), 64, out, 1));
+    r.inverted_direction = 1;
+    say("the same, turned round", BYTE, 1, bf_view_mark(Q, 12, 0, at(&r), 64, out, 1));
     say("mark P11", BYTE, 1, bf_view_mark(Q, 12, 1, altered(2, 4, 4, 0), 64, out, 1));
     say("mark, reserved 1", BYTE, 1, bf_view_mark(Q, 12, 1, marked(0, 0, 1), 64, out, 1));
     say("mark, no room", BYTE, 1, bf_view_mark(Q, 12, 1, at(&R), 64, out, 0));

@@ -127,6 +127,8 @@ ends 0 "$root/examples/make_sheet.py" --help
 head -n 1 out | grep -q '^make_sheet.py TEXT SHEET: ' || fail "make_sheet.py --help prints no help"
 ends 0 make "$root/examples/gasket.txt" made
 made "$root/examples/gasket.sheet"
+ends 0 make "$root/examples/hinge.txt" made
+made "$root/examples/hinge.sheet"
 ends 0 make "$cases/example.txt" made
 made "$root/crates/sheet/stdin"
 {
@@ -149,6 +151,8 @@ ends 0 show "$root/examples/gasket.out"
 shown "$here/gasket.numbers"
 ends 0 show <"$root/examples/gasket.out"
 shown "$here/gasket.numbers"
+ends 0 show "$root/examples/hinge.out"
+shown "$here/hinge.numbers"
 ends 0 show "$cases/names.out"
 shown "$cases/names.numbers"
 text 'outline 1 2 closed\nbox none\nview 0 1 hold 0\nview 1 refused 1\n'

@@ -20,7 +20,7 @@ pub struct Report {
 }
 
 /// The kinds of lines that sheets have, the lists aside.
-const LINES: [&str; 16] = [
+const LINES: [&str; 17] = [
     "box",
     "box none",
     "outline closed",
@@ -35,6 +35,7 @@ const LINES: [&str; 16] = [
     "view 5 hold",
     "view 6 hold",
     "view 7 cut",
+    "view 7 hold",
     "view refused 1",
     "view refused 4",
 ];

@@ -226,9 +226,64 @@ pub fn round() -> Vec<Case> {
     cases
 }
 
+/// The middles of Q's four segments.
+const MIDDLES: [[f64; 2]; 4] = [[2.0, 0.0], [5.0, 2.0], [2.0, 4.0], [0.0, 2.0]];
+
+/// A valid view on Q, from the middle of a segment to the end of the one that lies `offset` past it.
+pub fn along_q(start_index: usize, end_index_offset: usize, inverted: bool) -> PlineViewData {
+    let [x, y] = MIDDLES[start_index];
+    let end = 3 * ((start_index + end_index_offset + 1) % 4);
+    PlineViewData {
+        start_index,
+        end_index_offset,
+        updated_start: PlineVertex::new(x, y, 0.0),
+        updated_end_bulge: 0.0,
+        end_point: Vector2::new(Q[end], Q[end + 1]),
+        inverted_direction: inverted,
+    }
+}
+
+/// Marks at the gap of an open outline. On Q every start and every offset, in both directions, open and closed; then
+/// outlines of no vertex, of one and of two.
+pub fn gap() -> Vec<Case> {
+    let mark = |outline: &[f64], closed: u8, record: &PlineViewData| {
+        let case = Case::new(Call::ViewMark).numbers(outline);
+        case.whole(u64::from(closed)).bytes(&encode(record)).room(1)
+    };
+    let mut cases = Vec::new();
+    for (start, offset) in (0..4).flat_map(|start| (0..=4).map(move |offset| (start, offset))) {
+        for (inverted, closed) in [(false, 0), (false, 1), (true, 0), (true, 1)] {
+            cases.push(mark(&Q, closed, &along_q(start, offset, inverted)));
+        }
+    }
+
+    let line = [0.0, 0.0, 0.0, 1.0, 0.0, 0.0];
+    let at = |start_index, end_index_offset, end| PlineViewData {
+        start_index,
+        end_index_offset,
+        updated_start: PlineVertex::new(0.5, 0.0, 0.0),
+        end_point: Vector2::new(end, 0.0),
+        ..along_q(0, 0, false)
+    };
+    for closed in [0, 1] {
+        for vertices in [&line[..0], &line[..3]] {
+            cases.push(mark(vertices, closed, &at(0, 0, 1.0)));
+            cases.push(mark(
+                vertices,
+                closed,
+                &at(u32::MAX as usize, u32::MAX as usize, 1.0),
+            ));
+        }
+        cases.push(mark(&line, closed, &at(0, 0, 1.0)));
+        cases.push(mark(&line, closed, &at(0, 1, 0.0)));
+        cases.push(mark(&line, closed, &at(1, 0, 0.0)));
+    }
+    cases
+}
+
 /// The whole stored list.
 pub fn all() -> Vec<Case> {
-    [roots(), by_hand(), drawn(), long(), round()].concat()
+    [roots(), by_hand(), drawn(), long(), round(), gap()].concat()
 }
 
 /// A list's stored form, and the oracle's answers to it.

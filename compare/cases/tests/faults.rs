@@ -34,10 +34,15 @@ enum Fault {
     StartNotWrapped,
     StartEqualToTheCountNotWrapped,
     WrappedStartOneTooHigh,
-    OpenOutlinesHeld,
     EqualNumbersNotExchanged,
     SplitAtTheEndOnThePoint,
     VerdictSixValuesExchanged,
+    // The gap of an open outline.
+    CutAcrossTheGap,
+    CutAlongTheClosingSegment,
+    ClosedOutlinesHeldToo,
+    OnlyForwardViewsHeld,
+    ClosedByTwoTakenForOpen,
 }
 
 struct Spoilt(Fault);
@@ -253,14 +258,22 @@ impl Library for Spoilt {
     }
 
     fn view_mark(&self, outline: &[f64], closed: u8, bytes: &[u8], out: &mut [u8]) -> u8 {
-        let refusal = Oracle.view_mark(outline, closed, bytes, out);
-        if refusal == 0 && self.is(Fault::OpenOutlinesHeld) && closed == 0 {
-            let record = record::decode(bytes).unwrap();
-            if record.start_index + record.end_index_offset + 1 >= outline.len() / 3 {
-                out[0] = 0;
-            }
-        }
-        refusal
+        let record = record::decode(bytes).ok();
+        let inverted = record.is_some_and(|record| record.inverted_direction);
+        let last = record.is_some_and(|record| {
+            record.start_index + record.end_index_offset + 1 == outline.len() / 3
+        });
+        let as_closed = self.is(Fault::CutAcrossTheGap)
+            || self.is(Fault::CutAlongTheClosingSegment) && last
+            || self.is(Fault::OnlyForwardViewsHeld) && inverted;
+        let as_open = self.is(Fault::ClosedOutlinesHeldToo)
+            || self.is(Fault::ClosedByTwoTakenForOpen) && closed == 2;
+        let closed = match closed {
+            _ if as_closed => 1,
+            _ if as_open => 0,
+            _ => closed,
+        };
+        Oracle.view_mark(outline, closed, bytes, out)
     }
 
     fn view_count(&self, outline: &[f64], bytes: &[u8], out: &mut [u64]) -> u8 {
@@ -379,10 +392,14 @@ fn each_fault_is_found() {
         Fault::StartNotWrapped,
         Fault::StartEqualToTheCountNotWrapped,
         Fault::WrappedStartOneTooHigh,
-        Fault::OpenOutlinesHeld,
         Fault::EqualNumbersNotExchanged,
         Fault::SplitAtTheEndOnThePoint,
         Fault::VerdictSixValuesExchanged,
+        Fault::CutAcrossTheGap,
+        Fault::CutAlongTheClosingSegment,
+        Fault::ClosedOutlinesHeldToo,
+        Fault::OnlyForwardViewsHeld,
+        Fault::ClosedByTwoTakenForOpen,
     ] {
         let calls = found_within(fault);
         println!("{fault:?}: found within {calls:?} calls");
@@ -429,7 +446,21 @@ fn each_sheet_fault_is_found() {
         text.pop();
         text
     };
+    let cut_across_the_gap: Program = |bytes| {
+        let text = String::from_utf8(sheet_text(bytes)).unwrap();
+        let views = |text: &str| text.find("view").unwrap_or(text.len());
+        match bytes.get(2) {
+            Some(flags) if text.starts_with("outline") => {
+                let closed = [&bytes[..2], &[flags | 1], &bytes[3..]].concat();
+                let as_closed = String::from_utf8(sheet_text(&closed)).unwrap();
+                [&text[..views(&text)], &as_closed[views(&as_closed)..]].concat()
+            }
+            _ => text,
+        }
+        .into_bytes()
+    };
     for (name, program) in [
+        ("views cut across the gap", cut_across_the_gap),
         ("reserved bytes ignored", reserved_ignored),
         ("an extra byte ignored", extra_byte_ignored),
         ("flag bit 1 unknown", bit_1_unknown),

@@ -3,7 +3,7 @@
 
 use cases::case::Call;
 use cases::repository;
-use cases::stored::{Q, all, files, roots, round};
+use cases::stored::{Q, all, files, gap, roots, round};
 use oracle::Oracle;
 use oracle::sheet::sheet_text;
 use std::fs;
@@ -35,6 +35,7 @@ fn the_list_of_replay_is_made_anew() {
 fn the_texts_of_sheets_are_made_anew() {
     for (sheet, text) in [
         ("examples/gasket.sheet", "examples/gasket.out"),
+        ("examples/hinge.sheet", "examples/hinge.out"),
         ("crates/sheet/stdin", "crates/sheet/stdout"),
     ] {
         let command = format!("cargo run --release --bin sheet < ../{sheet} > ../{text}");
@@ -67,7 +68,8 @@ fn the_list_goes_round() {
     const ROUND: [usize; 8] = [0, 1, 2, 3, 0, 1, 2, 3];
     const MIDDLES: [[f64; 2]; 4] = [[2.0, 0.0], [5.0, 2.0], [2.0, 4.0], [0.0, 2.0]];
     let cases = round();
-    assert_eq!(all()[all().len() - cases.len()..], cases);
+    let first = all().len() - gap().len() - cases.len();
+    assert_eq!(all()[first..first + cases.len()], cases);
 
     let lookups = |view: usize| {
         let lookup = |k: usize| cases[7 * view + k].run(&Oracle).written(Call::ViewGet);
@@ -87,6 +89,33 @@ fn the_list_goes_round() {
             "back from segment {start}"
         );
     }
+}
+
+/// The marks at the gap, by hand. An open Q has the segments 0, 1 and 2: these starts and offsets stay on them.
+#[test]
+fn the_list_stops_at_the_gap() {
+    const STAY: [(usize, usize); 6] = [(0, 0), (0, 1), (0, 2), (1, 0), (1, 1), (2, 0)];
+    let cases = gap();
+    assert_eq!(all()[all().len() - cases.len()..], cases);
+    let mut marks = cases.iter().map(|case| {
+        let outcome = case.run(&Oracle);
+        assert_eq!(outcome.refusal, 0);
+        outcome.written(Call::ViewMark)[0] == 1
+    });
+    let mut next = |count| marks.by_ref().take(count).collect::<Vec<bool>>();
+
+    for (start, offset) in (0..4).flat_map(|start| (0..=4).map(move |offset| (start, offset))) {
+        let stays = STAY.contains(&(start, offset));
+        // Forward open and closed, inverted open and closed.
+        let expected = [stays, true, stays, true];
+        assert_eq!(next(4), expected, "start {start}, offset {offset}");
+    }
+    // Without a segment nothing is cut; of two vertices an open outline has the one segment, a closed one its way back.
+    assert_eq!(next(4), [false; 4]);
+    assert_eq!(next(3), [true, false, false]);
+    assert_eq!(next(4), [false; 4]);
+    assert_eq!(next(3), [true; 3]);
+    assert_eq!(next(1), [] as [bool; 0]);
 }
 
 #[test]

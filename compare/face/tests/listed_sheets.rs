@@ -2,7 +2,7 @@
 //! where that is short; the program and the oracle must both print it, and must agree where it is long.
 
 use cases::sheets::{largest_outline, largest_sheet, printed, sheet_of, sheet_program, whole_view};
-use oracle::PlineViewData;
+use oracle::{PlineVertex, PlineViewData, Vector2};
 use oracle::sheet::{LONGEST, sheet_text};
 
 /// A square of side 2, its second side a half circle.
@@ -122,14 +122,20 @@ fn lengths() {
 
 #[test]
 fn flags_and_directions() {
-    for (flags, closed) in [(0, "open"), (1, "closed"), (2, "open"), (3, "closed")] {
+    // Closed, the view of the whole square is cut; open, it is held, as it goes over the side that is not there.
+    for (flags, closed, lines) in [
+        (0, "open", 3),
+        (1, "closed", 9),
+        (2, "open", 3),
+        (3, "closed", 9),
+    ] {
         let head = format!("outline 4 1 {closed}\nbox ");
-        begins("flags", &square_sheet(flags, |_| {}), &head, 9);
+        begins("flags", &square_sheet(flags, |_| {}), &head, lines);
         begins(
             "inverted",
             &square_sheet(flags, |d| d.inverted_direction = true),
             &head,
-            9,
+            lines,
         );
     }
     for flags in [4, 8, 0x100, 0x8000, 0xffff] {
@@ -138,6 +144,43 @@ fn flags_and_directions() {
             &square_sheet(flags, |_| {}),
             "refused 11\n",
         );
+    }
+}
+
+#[test]
+fn the_gap_of_an_open_outline() {
+    // A strip of two sides, 2 long each: from the middle of a side to the end of one that lies `offset` past it.
+    let strip = [0.0, 0.0, 0.0, 2.0, 0.0, 0.0, 2.0, 2.0, 0.0];
+    let middles = [[1.0, 0.0], [2.0, 1.0], [1.0, 1.0]];
+    let view = |start: usize, offset: usize, inverted| PlineViewData {
+        start_index: start,
+        end_index_offset: offset,
+        updated_start: PlineVertex::new(middles[start][0], middles[start][1], 0.0),
+        updated_end_bulge: 0.0,
+        end_point: Vector2::new(
+            strip[3 * ((start + offset + 1) % 3)],
+            strip[3 * ((start + offset + 1) % 3) + 1],
+        ),
+        inverted_direction: inverted,
+    };
+    let head = |kind| {
+        format!(
+            "outline 3 1 {kind}\nbox 0000000000000000 0000000000000000 4000000000000000 4000000000000000\n"
+        )
+    };
+    for inverted in [false, true] {
+        for (start, offset) in [(0, 2), (1, 1), (2, 0), (2, 3)] {
+            let held = sheet_of(&strip, 0, &[view(start, offset, inverted)]);
+            prints("across", &held, &(head("open") + "view 0 7 hold 0\n"));
+            let cut = sheet_of(&strip, 1, &[view(start, offset, inverted)]);
+            let start = format!("{}view 0 7 cut {}\n", head("closed"), offset + 2);
+            begins("closed", &cut, &start, 5 + offset);
+        }
+        for (start, offset) in [(0, 0), (0, 1), (1, 0)] {
+            let cut = sheet_of(&strip, 0, &[view(start, offset, inverted)]);
+            let start = format!("{}view 0 7 cut {}\n", head("open"), offset + 2);
+            begins("before the gap", &cut, &start, 5 + offset);
+        }
     }
 }
 
