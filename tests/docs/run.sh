@@ -1,10 +1,18 @@
 #!/bin/sh
 # Holds docs/PROMISES.md to the crates: each quoted line stands in the file that is named above it, each file and each wrong answer that is
-# named is there, and two or more are named for each call.
+# named is there, and two or more are named for each call. And the texts that README and docs/SHEET.md show are those that are stored.
 set -eu
 cd "$(dirname "$0")/../.."
 page=docs/PROMISES.md
+# shows PAGE FILE: the page has the file's lines, each behind four spaces, as one block
+shows() {
+    awk -v first="    $(head -n 1 "$2")" '$0 == first { on = 1 } on && !/^    / { exit } on { print substr($0, 5) }' "$1" | cmp -s - "$2" ||
+        echo "$1 does not show $2"
+}
 wrong=$(
+    shows README.md examples/gasket.out
+    shows docs/SHEET.md crates/sheet/stdout
+    shows docs/SHEET.md tests/tools/hinge.numbers
     # a block of lines behind four spaces is a quotation of the file in the line before it: From FILE:
     awk '
         /^From [a-z0-9_]+\/[A-Za-z0-9_\/]+\.(antt|rt):$/ { file = $2; sub(/:$/, "", file); next }
