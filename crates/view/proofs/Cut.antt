@@ -1,4 +1,4 @@
--- A view is cut exactly when its record, its outline and its two ends are as `Cut` says; and a cut view lists.
+-- A view is cut exactly when its record, its outline, its two ends and, on an open outline, its last segment are as `Cut` says; and a cut view lists.
 use mathlib.Core.Path.{_≡_, refl, sym, _∙_}
 use mathlib.Core.Bool.{Bool, true, false, cond, not, _&&_}
 use mathlib.Core.List.{List}

@@ -119,7 +119,11 @@ impl PlineViewData {
     {
         let answer = self.validate_for_source(source);
         match answer {
-            ValidationAnswer::Given(verdict) => MarkAnswer::Given(verdict.mark(self, source, closed)),
+            ValidationAnswer::Given(verdict) => MarkAnswer::Given(verdict.mark(
+                self,
+                source,
+                closed,
+            )),
             ValidationAnswer::Refused(n) => MarkAnswer::Refused(n),
         }
     }
