@@ -2,8 +2,8 @@
 //! where that is short; the program and the oracle must both print it, and must agree where it is long.
 
 use cases::sheets::{largest_outline, largest_sheet, printed, sheet_of, sheet_program, whole_view};
-use oracle::{PlineVertex, PlineViewData, Vector2};
 use oracle::sheet::{LONGEST, sheet_text};
+use oracle::{PlineVertex, PlineViewData, Vector2};
 
 /// A square of side 2, its second side a half circle.
 const SQUARE: [f64; 12] = [0.0, 0.0, 0.0, 2.0, 0.0, 1.0, 2.0, 2.0, 0.0, 0.0, 2.0, 0.0];

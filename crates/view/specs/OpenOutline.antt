@@ -1,4 +1,4 @@
--- Open outlines: an outline of n vertices that is open has the segments 0 to n - 2, and none from its last vertex back to its first. proofs/OpenOutline.antt proves this of every outline and every record.
+-- Open outlines: an outline of n vertices that is open has the segments 0 to n - 2, and none from its last vertex back to its first. What the mark makes of that: proofs/OpenOutline.antt proves `OpenOutline` of every outline and every record.
 use mathlib.Core.Path.{_≡_}
 use mathlib.Core.Bool.{Bool, true, false}
 use mathlib.Core.List.{List}

@@ -125,7 +125,7 @@ markReply (mark.Refused n) = refused n
 unfoldable pub acrossGap : Bool → List Float → PlineViewData → Bool
 acrossGap closed s d = not closed && leb (countOf s - 1) (d .«start_index» + d .«end_index_offset»)
 
--- "a view is cut exactly when its verdict is 7; otherwise it is hold", and across the gap it "is hold also"; "The verdict stays the crate's."
+-- "a view is cut exactly when its verdict is 7 [...]; otherwise it is hold", and across the gap it "is hold also". "The verdict stays the crate's."
 unfoldable pub markOf : Bool → List Float → PlineViewData → Verdict → MarkCase
 markOf closed s d v = cond (eqb (v .number) 7) (cond (acrossGap closed s d) hold cut) hold
 
