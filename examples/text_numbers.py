@@ -19,7 +19,7 @@ import sys
 sys.dont_write_bytecode = True  # no compiled tool.py is left in this folder
 from tool import read, run, wanted, write
 
-MOST_VERTICES = 1024
+MOST_VERTICES = 2000
 MOST_VIEWS = 256
 VERDICTS = {
     "1": "no segments",

@@ -8,7 +8,7 @@
  * address: they are read and written byte by byte. An answer stands at the front of its buffer, and places past it keep
  * what they held.
  *
- * An outline is 0 to 1,024 vertices of three numbers x, y, bulge. A segment is 6 numbers, its two vertices. The library
+ * An outline is 0 to 2,000 vertices of three numbers x, y, bulge. A segment is 6 numbers, its two vertices. The library
  * is for x86-64, a little-endian machine, where bf_record is the job sheet's record byte for byte.
  *
  * What no function can test is the caller's to see to:
@@ -137,7 +137,7 @@ uint8_t bf_view_count(const double *outline, size_t outline_len, const void *rec
 uint8_t bf_view_get(const double *outline, size_t outline_len, const void *record, size_t record_len,
                     uint64_t position, double *out, size_t out_len);
 
-/* All vertices, three numbers each, and to `count` how many: 1 word. At most 1,026 vertices. 11, 12, 3, 1, 5, 4, 8. */
+/* All vertices, three numbers each, and to `count` how many: 1 word. At most 2,002 vertices. 11, 12, 3, 1, 5, 4, 8. */
 uint8_t bf_view_list(const double *outline, size_t outline_len, const void *record, size_t record_len, double *out,
                      size_t out_len, uint64_t *count, size_t count_len);
 

@@ -41,11 +41,11 @@ static const double BROKEN[12] = {0, 0, 0, 4, 0, 0.5, 4, 4, 0, NAN, 4, 0};
 static const bf_record R = {0, 2, {1, 0, 0}, 0, {2, 4}, 0, 0};
 
 /* One vertex more than an outline may have. All numbers are 0. */
-static double long_outline[3 * 1025];
+static double long_outline[3 * 2001];
 
 /* The lent buffers, each with room past the longest answer. */
 enum { FILL = 0x55, STACK = BF_STACK_BYTES, AREA = 16 * STACK };
-static double numbers[3 * 1026 + 2];
+static double numbers[3 * 2002 + 2];
 static uint64_t words[4];
 static unsigned char bytes[64 + 16];
 static size_t shift;
@@ -224,7 +224,7 @@ static void call_judges(void)
 
 static uint8_t list(const double *outline, size_t outline_len, const void *record)
 {
-    return bf_view_list(outline, outline_len, record, 64, numbers, 3 * 1026, words, 1);
+    return bf_view_list(outline, outline_len, record, 64, numbers, 3 * 2002, words, 1);
 }
 
 static void call_readers(void)
@@ -232,8 +232,8 @@ static void call_readers(void)
     say("count", WORDS, 1, bf_view_count(Q, 12, at(&R), 64, words, 1));
     say("count of offset 5", WORDS, 1, bf_view_count(Q, 12, altered(5, 2, 4, 0), 64, words, 1));
     say("count on one vertex", WORDS, 1, bf_view_count(Q, 3, at(&R), 64, words, 1));
-    say("count on 1024 vertices", WORDS, 1, bf_view_count(long_outline, 3 * 1024, at(&R), 64, words, 1));
-    say("count on 1025 vertices", WORDS, 1, bf_view_count(long_outline, 3 * 1025, at(&R), 64, words, 1));
+    say("count on 2000 vertices", WORDS, 1, bf_view_count(long_outline, 3 * 2000, at(&R), 64, words, 1));
+    say("count on 2001 vertices", WORDS, 1, bf_view_count(long_outline, 3 * 2001, at(&R), 64, words, 1));
     say("count, no room", WORDS, 1, bf_view_count(Q, 12, at(&R), 64, words, 0));
 
     say("position 1", NUMBERS, 3, bf_view_get(Q, 12, at(&R), 64, 1, numbers, 3));
@@ -243,7 +243,7 @@ static void call_readers(void)
     say("position 2 of offset 0", NUMBERS, 3, bf_view_get(Q, 12, altered(0, 2, 0, 0), 64, 2, numbers, 3));
 
     say("P7", LIST, 0, list(Q, 12, at(&R)));
-    say("list of 1026", LIST_END, 0, list(long_outline, 3 * 1024, altered(1024, 2, 4, 0)));
+    say("list of 2002", LIST_END, 0, list(long_outline, 3 * 2000, altered(2000, 2, 4, 0)));
     say("list on a broken outline", LIST, 0, list(BROKEN, 12, at(&R)));
     say("list, room for 11", LIST, 0, bf_view_list(Q, 12, at(&R), 64, numbers, 11, words, 1));
     say("list, no room for the count", LIST, 0, bf_view_list(Q, 12, at(&R), 64, numbers, 12, words, 0));

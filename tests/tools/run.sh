@@ -160,7 +160,7 @@ ends 0 show text
 text 'outline 1 2 closed\nbox none\nview 0 1 hold 0 (no segments)\nview 1 refused 1 (a number is NaN, infinite or out of range)\n'
 shown text
 awk 'BEGIN {
-    print "outline 1024 256 closed\nbox 3ff0000000000000 3ff0000000000000 3ff0000000000000 3ff0000000000000"
+    print "outline 2000 256 closed\nbox 3ff0000000000000 3ff0000000000000 3ff0000000000000 3ff0000000000000"
     for (k = 0; k < 256; k++) print "view " k " refused 4"
 }' >text
 ends 0 show text

@@ -26,14 +26,14 @@ pub struct Generator {
     trouble: usize,
     /// Whether long outlines are wanted too.
     long: bool,
-    /// Outlines of 1,023 to 1,025 vertices, made once.
+    /// Outlines at the vertex limit and at the one before it, 1,024, made once.
     long_outlines: Vec<Vec<f64>>,
 }
 
 impl Generator {
     pub fn new(seed: u64) -> Self {
         let mut generator = Self::small(seed);
-        generator.long_outlines = [1023, 1024, 1024, 1024, 1025, 1025]
+        generator.long_outlines = [1024, 1025, 1999, 2000, 2000, 2001]
             .map(|count| generator.outline_of(count))
             .into();
         generator.long = true;

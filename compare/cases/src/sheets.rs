@@ -31,18 +31,20 @@ pub fn sheet_of(outline: &[f64], flags: u16, records: &[PlineViewData]) -> Vec<u
     bytes
 }
 
-/// The largest sheet: 1,024 vertices on a circle and 256 views, each cut, of 1,025 vertices and more.
+/// The largest sheet: 2,000 vertices on a circle and 256 views, each cut, of 2,001 vertices and more.
 pub fn largest_sheet() -> Vec<u8> {
     let outline = largest_outline();
-    let records: Vec<PlineViewData> = (0..256).map(|k| whole_view(&outline, 4 * k)).collect();
+    let records: Vec<PlineViewData> = (0..256)
+        .map(|k| whole_view(&outline, 976 + 4 * k))
+        .collect();
     sheet_of(&outline, 1, &records)
 }
 
-/// 1,024 vertices on a circle of radius 1,000, lines and arcs in turn.
+/// 2,000 vertices on a circle of radius 1,000, lines and arcs in turn.
 pub fn largest_outline() -> Vec<f64> {
     let mut outline = Vec::new();
-    for k in 0..1024 {
-        let p = on_circle(k, 1024);
+    for k in 0..2000 {
+        let p = on_circle(k, 2000);
         let bulge = if k % 2 == 0 { 0.0 } else { 0.2 };
         outline.extend([1000.0 * p.x, 1000.0 * p.y, bulge]);
     }

@@ -140,29 +140,31 @@ fn by_hand() -> Vec<Case> {
     ]
 }
 
-/// A few cases on long outlines.
-fn long() -> Vec<Case> {
+/// A few cases on long outlines: of 2,000 vertices, the limit, of 2,001, and of 1,025, which were too many once.
+pub fn long() -> Vec<Case> {
     let limit = largest_outline();
     let over = [&limit[..], &[0.0; 3]].concat();
-    let (forward, inverted) = (whole_view(&limit, 1000), whole_view(&limit, 1004));
-    let count = |outline: &[f64]| {
+    let once_over = &limit[..3 * 1025];
+    let (forward, inverted) = (whole_view(&limit, 1992), whole_view(&limit, 1996));
+    let count = |outline: &[f64], record: &PlineViewData| {
         let case = Case::new(Call::ViewCount).numbers(outline);
-        case.bytes(&encode(&forward)).room(1)
+        case.bytes(&encode(record)).room(1)
     };
     let on_limit = |call, record| Case::new(call).numbers(&limit).bytes(&encode(record));
     vec![
-        count(&limit),
-        count(&over),
-        on_limit(Call::ViewList, &forward).room(3 * 1026).room(1),
-        on_limit(Call::ViewList, &inverted).room(3 * 1026).room(1),
+        count(once_over, &whole_view(once_over, 1000)),
+        count(&limit, &forward),
+        count(&over, &forward),
+        on_limit(Call::ViewList, &forward).room(3 * 2002).room(1),
+        on_limit(Call::ViewList, &inverted).room(3 * 2002).room(1),
         on_limit(Call::ViewList, &inverted)
-            .room(3 * 1026 - 1)
+            .room(3 * 2002 - 1)
             .room(1),
         on_limit(Call::ViewValidate, &inverted).room(3).room(5),
-        on_limit(Call::ViewGet, &inverted).whole(500).room(3),
+        on_limit(Call::ViewGet, &inverted).whole(1500).room(3),
         on_limit(Call::ViewTrim, &inverted)
             .whole(100)
-            .whole(900)
+            .whole(1900)
             .room(64),
     ]
 }

@@ -43,6 +43,9 @@ enum Fault {
     ClosedOutlinesHeldToo,
     OnlyForwardViewsHeld,
     ClosedByTwoTakenForOpen,
+    // The vertex limit.
+    OldVertexLimit,
+    OneVertexOverTheLimit,
 }
 
 struct Spoilt(Fault);
@@ -284,6 +287,11 @@ impl Library for Spoilt {
         {
             return 5;
         }
+        let outline = match outline.len() / 3 {
+            1025..=2000 if self.is(Fault::OldVertexLimit) => return 3,
+            2001 if self.is(Fault::OneVertexOverTheLimit) => &outline[3..],
+            _ => outline,
+        };
         Oracle.view_count(outline, bytes, out)
     }
 
@@ -400,6 +408,8 @@ fn each_fault_is_found() {
         Fault::ClosedOutlinesHeldToo,
         Fault::OnlyForwardViewsHeld,
         Fault::ClosedByTwoTakenForOpen,
+        Fault::OldVertexLimit,
+        Fault::OneVertexOverTheLimit,
     ] {
         let calls = found_within(fault);
         println!("{fault:?}: found within {calls:?} calls");
@@ -459,7 +469,12 @@ fn each_sheet_fault_is_found() {
         }
         .into_bytes()
     };
+    let old_vertex_limit: Program = |bytes| match bytes.get(4..6) {
+        Some(v) if u16::from_le_bytes([v[0], v[1]]) > 1024 => b"refused 11\n".to_vec(),
+        _ => sheet_text(bytes),
+    };
     for (name, program) in [
+        ("the old vertex limit", old_vertex_limit),
         ("views cut across the gap", cut_across_the_gap),
         ("reserved bytes ignored", reserved_ignored),
         ("an extra byte ignored", extra_byte_ignored),

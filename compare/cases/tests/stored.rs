@@ -3,7 +3,7 @@
 
 use cases::case::Call;
 use cases::repository;
-use cases::stored::{Q, all, files, gap, roots, round};
+use cases::stored::{Q, all, files, gap, long, roots, round};
 use oracle::Oracle;
 use oracle::sheet::sheet_text;
 use std::fs;
@@ -60,6 +60,37 @@ fn the_list_covers_every_call_and_refusal() {
             assert!(given.contains(refusal), "{call:?} {refusal}");
         }
     }
+}
+
+/// The vertex limit, by hand: 1,025 and 2,000 vertices are taken, one more is refused 3. Once round an outline from the
+/// middle of a segment is two vertices more than it has, and a buffer that is a number short of them is refused 8.
+#[test]
+fn the_list_knows_the_limit() {
+    let cases = long();
+    let first = all().len() - gap().len() - round().len() - cases.len();
+    assert_eq!(all()[first..first + cases.len()], cases);
+
+    let answers = cases.iter().map(|case| {
+        let outcome = case.run(&Oracle);
+        let words = outcome.written(case.call);
+        let count = match case.call {
+            Call::ViewCount | Call::ViewList => words.last().copied(),
+            _ => None,
+        };
+        (case.call, outcome.refusal, count)
+    });
+    let expected = [
+        (Call::ViewCount, 0, Some(1027)),
+        (Call::ViewCount, 0, Some(2002)),
+        (Call::ViewCount, 3, None),
+        (Call::ViewList, 0, Some(2002)),
+        (Call::ViewList, 0, Some(2002)),
+        (Call::ViewList, 8, None),
+        (Call::ViewValidate, 0, None),
+        (Call::ViewGet, 0, None),
+        (Call::ViewTrim, 0, None),
+    ];
+    assert_eq!(answers.collect::<Vec<_>>(), expected);
 }
 
 /// The lookups once round Q, by hand: from the middle of segment `start` its four vertices follow, then the middle again.

@@ -65,14 +65,21 @@ fn sizes() {
     );
     let outline = largest_outline();
     begins(
-        "1,024 vertices",
+        "2,000 vertices",
         &sheet_of(&outline, 1, &[]),
-        "outline 1024 0 closed\nbox ",
+        "outline 2000 0 closed\nbox ",
+        2,
+    );
+    // One more than the limit that was.
+    begins(
+        "1,025 vertices",
+        &sheet_of(&outline[..3 * 1025], 0, &[]),
+        "outline 1025 0 open\nbox ",
         2,
     );
     let one_more = [&outline[..], &[0.0; 3]].concat();
     prints(
-        "1,025 vertices",
+        "2,001 vertices",
         &sheet_of(&one_more, 1, &[]),
         "refused 11\n",
     );
@@ -88,8 +95,8 @@ fn sizes() {
     begins(
         "the largest",
         &largest_sheet(),
-        "outline 1024 256 closed\n",
-        2 + 256 * 1027,
+        "outline 2000 256 closed\n",
+        2 + 256 * 2003,
     );
 }
 

@@ -3,7 +3,7 @@
 use crate::{PlineVertex, PlineViewData, Vector2, refusal};
 
 /// The vertex limit of an outline.
-pub const MOST_VERTICES: usize = 1024;
+pub const MOST_VERTICES: usize = 2000;
 
 /// `Ok` when a check holds, else its refusal.
 pub fn check(holds: bool, refusal: u8) -> Result<(), u8> {

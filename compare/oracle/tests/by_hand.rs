@@ -146,8 +146,8 @@ fn run_cases() {
     let middle = Vector2::new(0.5, -0.5);
     assert_eq!(segment::seg_closest_point(&H, middle, 0.0), Err(2));
 
-    let limit = vec![0.0; 3 * 1024];
-    let over = vec![0.0; 3 * 1025];
+    let limit = vec![0.0; 3 * 2000];
+    let over = vec![0.0; 3 * 2001];
     assert_eq!(view::count(&limit, &r()), Ok(4));
     assert_eq!(view::count(&over, &r()), Err(3));
 

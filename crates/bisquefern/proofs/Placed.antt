@@ -1,4 +1,4 @@
--- A record that a call answers lies in its outline, so its start and offset are at most 1,024.
+-- A record that a call answers lies in its outline, so its start and offset are at most 2,000.
 use mathlib.Core.Path.{_≡_, sym, subst, _∙_}
 use mathlib.Core.Bool.{Bool, true, false, cond, _&&_}
 use mathlib.Core.List.{List}

@@ -81,10 +81,10 @@ fn say_count(outline: &[f64]) {
 }
 
 fn most_vertices() {
-    let outline = [0.0f64; 3075];
-    say(b"1,024 vertices: ");
-    say_count(&outline[..3072]);
-    say(b"1,025 vertices: ");
+    let outline = [0.0f64; 6003];
+    say(b"2,000 vertices: ");
+    say_count(&outline[..6000]);
+    say(b"2,001 vertices: ");
     say_count(&outline);
 }
 

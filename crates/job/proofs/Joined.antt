@@ -1,6 +1,6 @@
 -- Texts joined: by the elements of a list, by number, and from the front.
 use mathlib.Core.Path.{_≡_, refl, sym, ap, ap₂, _∙_}
-use mathlib.Core.List.{List, _++_, append-assoc, append-nil}
+use mathlib.Core.List.{List, [], _∷_, _++_, append-assoc, append-nil}
 use Prim.Native.Nat.{ℕ, zero, suc, _+_, _<_}
 use native.Mathlib.Omega.{arith}
 use Rattle.lists.specs.Plain.{tab}
@@ -15,6 +15,11 @@ pub joined-first : (f : ℕ → List ℕ) (n : ℕ) → joined f (suc n) ≡ f 0
 unfolding joined
 joined-first f zero = sym (append-nil (f 0))
 joined-first f (suc n) = ap (λ (t : List ℕ). t ++ f (suc n)) (joined-first f n) ∙ append-assoc (f 0) (joined (λ k. f (suc k)) n) (f (suc n))
+
+pub numbered-ext : {A : Type 0} (f g : ℕ → A → List ℕ) → ((k : ℕ) (x : A) → f k x ≡ g k x) → (k : ℕ) (l : List A) → numbered f k l ≡ numbered g k l
+unfolding numbered
+numbered-ext f g h k [] = refl
+numbered-ext f g h k (x ∷ l) = ap₂ (λ (t u : List ℕ). t ++ u) (h k x) (numbered-ext f g h (suc k) l)
 
 module _ {A : Type 0} (f : ℕ → A → List ℕ) where
   from : (g : ℕ → A) (n k : ℕ) → numbered f k (tab g n) ≡ joined (λ i. f (k + i) (g i)) n

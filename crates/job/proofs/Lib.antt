@@ -1,4 +1,4 @@
--- The theorems: Whole, Viewing, Same, Example. Sheets has what the program uses.
+-- The theorems: Whole, OldSheets, Viewing, Same, Example. Sheets has what the program uses.
 mod Tests
 mod Lengths
 mod Joined
@@ -9,5 +9,6 @@ pub mod Sheets
 pub mod Viewing
 mod Parting
 pub mod Whole
+pub mod OldSheets
 pub mod Same
 pub mod Example

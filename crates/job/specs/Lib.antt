@@ -6,4 +6,5 @@ pub mod Rows
 pub mod Lines
 pub mod Views
 pub mod Parts
+pub mod OldSheets
 pub mod Example

@@ -14,7 +14,7 @@ use crate::read::word;
 use std::num::wrapping_add_u64;
 
 // No case has more words, and none of its slices more places.
-const MOST: usize = 4096;
+const MOST: usize = 8192;
 
 // What a line says of a case that does not fit.
 const UNFIT: u8 = 255;

@@ -57,7 +57,7 @@ struct Room {
 impl Room {
     fn new() -> Self {
         Room {
-            numbers: vec![0.0; 3 * 1026],
+            numbers: vec![0.0; 3 * 2002],
             wholes: [0; 3],
             bytes: [0; 64],
         }
@@ -380,12 +380,12 @@ fn views() {
 fn large() {
     let outline = largest_outline();
     for (direction, first) in [("forward", 0), ("inverted", 4)] {
-        let records: Vec<[u8; 64]> = (0..128)
+        let records: Vec<[u8; 64]> = (0..250)
             .map(|k| encode(&whole_view(&outline, first + 8 * k)))
             .collect();
-        let name = |call: &str| format!("{call} 1,024 vertices, {direction}");
+        let name = |call: &str| format!("{call} 2,000 vertices, {direction}");
         row!(
-            &name("view_list, 1,026 of"),
+            &name("view_list, 2,002 of"),
             records,
             |library, record, room| {
                 library.view_list(&outline, record, &mut room.numbers, &mut room.wholes)
@@ -395,10 +395,10 @@ fn large() {
             library.view_validate(&outline, record, &mut room.wholes, &mut room.numbers)
         });
         row!(&name("view_get"), records, |library, record, room| {
-            library.view_get(&outline, record, 512, &mut room.numbers)
+            library.view_get(&outline, record, 1000, &mut room.numbers)
         });
         row!(&name("view_trim"), records, |library, record, room| {
-            library.view_trim(&outline, record, 100, 900, &mut room.bytes)
+            library.view_trim(&outline, record, 100, 1900, &mut room.bytes)
         });
     }
 }
@@ -443,7 +443,7 @@ fn sheets(programs: &[PathBuf; 2]) {
     }
     fs::remove_file(&input).expect("the sheet can be removed");
     let [ours, rust] = times.map(median);
-    print_row("sheet, 1,024 vertices, 256 cut views", ours, rust);
+    print_row("sheet, 2,000 vertices, 256 cut views", ours, rust);
 }
 
 fn run_time(program: &Path, input: &Path) -> Duration {
