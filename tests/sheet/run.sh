@@ -3,11 +3,12 @@
 set -eu
 here=$(cd "$(dirname "$0")" && pwd)
 root=$(cd "$here/../.." && pwd)
-sheet=$root/target/bin/sheet
-if [ ! -x "$sheet" ]; then
+program=$root/target/bin/sheet
+if [ ! -x "$program" ]; then
     echo "tests/sheet: target/bin/sheet is missing: run rt check sheet first" >&2
     exit 1
 fi
+sheet() { "$root/tests/x86_64" "$program"; }
 work=$(mktemp -d)
 trap 'rm -rf "$work"' EXIT
 unread='sheet: the input could not be read'
@@ -22,34 +23,34 @@ same() {
 }
 : >"$work/empty"
 
-"$sheet" <"$root/examples/gasket.sheet" >"$work/out" 2>"$work/err"
+sheet <"$root/examples/gasket.sheet" >"$work/out" 2>"$work/err"
 same "a good sheet" "$root/examples/gasket.out" ""
 
 # a pipe gives the sheet in pieces
-(head -c 5 "$root/examples/gasket.sheet"; sleep 1; tail -c +6 "$root/examples/gasket.sheet") | "$sheet" >"$work/out" 2>"$work/err"
+(head -c 5 "$root/examples/gasket.sheet"; sleep 1; tail -c +6 "$root/examples/gasket.sheet") | sheet >"$work/out" 2>"$work/err"
 same "a sheet in pieces" "$root/examples/gasket.out" ""
 
 echo "refused 11" >"$work/refused"
-"$sheet" <"$work/empty" >"$work/out" 2>"$work/err"
+sheet <"$work/empty" >"$work/out" 2>"$work/err"
 same "no bytes" "$work/refused" ""
 
-head -c 100000 /dev/zero | "$sheet" >"$work/out" 2>"$work/err"
+head -c 100000 /dev/zero | sheet >"$work/out" 2>"$work/err"
 same "more bytes than a sheet has" "$work/refused" ""
 
-"$sheet" <"$work" >"$work/out" 2>"$work/err"
+sheet <"$work" >"$work/out" 2>"$work/err"
 same "a folder for a sheet" "$work/empty" "$unread"
 
-"$sheet" <&- >"$work/out" 2>"$work/err"
+sheet <&- >"$work/out" 2>"$work/err"
 same "no input" "$work/empty" "$unread"
 
 cp "$work/empty" "$work/out"
-"$sheet" <"$root/examples/gasket.sheet" >/dev/full 2>"$work/err"
+sheet <"$root/examples/gasket.sheet" >/dev/full 2>"$work/err"
 same "a full disk" "$work/empty" "$unwritten"
 
-"$sheet" <"$work/empty" >/dev/full 2>"$work/err"
+sheet <"$work/empty" >/dev/full 2>"$work/err"
 same "a full disk for a refusal" "$work/empty" "$unwritten"
 
-"$sheet" <"$root/examples/gasket.sheet" >&- 2>"$work/err"
+sheet <"$root/examples/gasket.sheet" >&- 2>"$work/err"
 same "no output" "$work/empty" "$unwritten"
 
 echo "tests/sheet: ok"

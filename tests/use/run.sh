@@ -2,6 +2,8 @@
 # Runs the commands of README's section "Use it", block by block, in a folder that holds what they name; each must print `cut`.
 set -eu
 root=$(cd "$(dirname "$0")/../.." && pwd)
+machine=$(uname -m)
+[ "$machine" = x86_64 ] || { echo "tests/use: not tried: the library is for x86-64, and README's commands for such a machine; this one is $machine"; exit; }
 fail() { echo "tests/use: $*" >&2; exit 1; }
 [ -f "$root/target/staticlib/libbisquefern.a" ] ||
     fail "target/staticlib/libbisquefern.a is missing: run rt staticlib bisquefern first"

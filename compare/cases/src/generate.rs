@@ -20,6 +20,11 @@ pub fn on_circle(k: usize, n: usize) -> Vector2 {
     }
 }
 
+/// A NaN that was worked out has its sign from the processor; this one is the same on all.
+fn same_nan(x: f64) -> f64 {
+    if x.is_nan() { f64::NAN } else { x }
+}
+
 pub struct Generator {
     pub random: Random,
     /// In how many of a hundred places the case at hand is damaged.
@@ -323,7 +328,8 @@ impl Generator {
             }
             _ => Vector2::new(self.coordinate(), self.coordinate()),
         };
-        self.nudge(p, tolerance)
+        let p = self.nudge(p, tolerance);
+        Vector2::new(same_nan(p.x), same_nan(p.y))
     }
 
     /// A distance, often just that of the point to a place of the segment.

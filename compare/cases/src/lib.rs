@@ -4,6 +4,7 @@
 #![forbid(unsafe_code)]
 
 use std::path::Path;
+use std::process::Command;
 
 pub mod case;
 pub mod compare;
@@ -19,4 +20,14 @@ pub mod stored;
 pub fn repository() -> &'static Path {
     let folder = Path::new(env!("CARGO_MANIFEST_DIR"));
     folder.ancestors().nth(2).expect("this is compare/cases")
+}
+
+/// The command that runs a program of the repository. These are for x86-64; on another processor `tests/x86_64` runs them.
+pub fn command(program: &Path) -> Command {
+    if cfg!(target_arch = "x86_64") {
+        return Command::new(program);
+    }
+    let mut command = Command::new(repository().join("tests/x86_64"));
+    command.arg(program);
+    command
 }

@@ -2,14 +2,14 @@
 
 use crate::generate::{Generator, on_circle};
 use crate::report::Report;
-use crate::repository;
+use crate::{command, repository};
 use oracle::record::{RECORD_BYTES, encode};
 use oracle::sheet::{LONGEST, sheet_text};
 use oracle::{PlineViewData, view};
 use std::env;
 use std::io::{ErrorKind, Write};
 use std::path::{Path, PathBuf};
-use std::process::{Command, Stdio};
+use std::process::Stdio;
 use std::thread;
 
 /// A sound sheet.
@@ -169,7 +169,7 @@ fn damage(generator: &mut Generator, bytes: &mut Vec<u8>, vertices: usize, views
 
 /// All that a program prints when its standard input is these bytes.
 pub fn printed(program: &Path, bytes: &[u8]) -> Vec<u8> {
-    let mut child = Command::new(program)
+    let mut child = command(program)
         .stdin(Stdio::piped())
         .stdout(Stdio::piped())
         .spawn()

@@ -25,6 +25,12 @@ const SHEET_ROUNDS: usize = 21;
 
 fn main() {
     let [] = numbers("bench, with nothing behind it", []);
+    if !cfg!(target_arch = "x86_64") {
+        or_end(Err::<(), _>(
+            "bench: the library is for x86-64, and a time under an emulator says nothing"
+                .to_string(),
+        ));
+    }
     let programs = [or_end(sheet_program()), or_end(rust_sheet_program())];
 
     println!(
