@@ -9,6 +9,7 @@ use std::process::Command;
 pub mod case;
 pub mod compare;
 pub mod generate;
+pub mod largest;
 pub mod random;
 pub mod report;
 pub mod rows;

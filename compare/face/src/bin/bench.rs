@@ -5,23 +5,19 @@
 
 use cases::case::Call;
 use cases::generate::Generator;
+use cases::largest::{median, print_row, print_rows, rust_sheet_program};
 use cases::random::Random;
-use cases::sheets::{largest_outline, largest_sheet, sheet_program, whole_view};
+use cases::sheets::{largest_outline, sheet_program, whole_view};
 use cases::start::{numbers, or_end};
 use face::Bisquefern;
 use oracle::record::encode;
 use oracle::{Library, Oracle};
-use std::env;
-use std::fs::{self, File};
 use std::hint::black_box;
-use std::path::{Path, PathBuf};
-use std::process::{Command, Stdio};
-use std::time::{Duration, Instant};
+use std::time::Instant;
 
 const CASES: usize = 4096;
 /// Many short rounds, so that the median leaves out those in which something else ran.
 const ROUNDS: usize = 61;
-const SHEET_ROUNDS: usize = 21;
 
 fn main() {
     let [] = numbers("bench, with nothing behind it", []);
@@ -41,16 +37,7 @@ fn main() {
     segments();
     views();
     large();
-    sheets(&programs);
-}
-
-fn print_row(name: &str, ours: f64, rust: f64) {
-    println!("{name:48} {ours:12.1} {rust:12.1} {:7.2}", ours / rust);
-}
-
-fn median(mut times: Vec<f64>) -> f64 {
-    times.sort_by(f64::total_cmp);
-    times[times.len() / 2]
+    print_rows(&programs);
 }
 
 /// Answer buffers with room for every call; each side has its own.
@@ -407,60 +394,6 @@ fn large() {
             library.view_trim(&outline, record, 100, 1900, &mut room.bytes)
         });
     }
-}
-
-/// The program `sheet` in Rust, built beside this one.
-fn rust_sheet_program() -> Result<PathBuf, String> {
-    let bench = env::current_exe().unwrap();
-    let target = bench.ancestors().nth(2).unwrap();
-    let status = Command::new(env::var_os("CARGO").unwrap_or("cargo".into()))
-        .args([
-            "build",
-            "--quiet",
-            "--release",
-            "-p",
-            "oracle",
-            "--bin",
-            "sheet",
-        ])
-        .arg("--target-dir")
-        .arg(target)
-        .current_dir(env!("CARGO_MANIFEST_DIR"))
-        .status();
-    if status.is_ok_and(|status| status.success()) {
-        Ok(target.join("release/sheet"))
-    } else {
-        Err(
-            "the Rust program sheet cannot be built: run cargo build --release -p oracle first"
-                .to_string(),
-        )
-    }
-}
-
-/// The largest sheet, our program against the Rust one, with the output thrown away.
-fn sheets(programs: &[PathBuf; 2]) {
-    let input = env::temp_dir().join(format!("largest-sheet-{}", std::process::id()));
-    fs::write(&input, largest_sheet()).expect("the sheet can be written");
-    let mut times = [Vec::new(), Vec::new()];
-    for _ in 0..SHEET_ROUNDS {
-        for (program, times) in programs.iter().zip(&mut times) {
-            times.push(run_time(program, &input).as_nanos() as f64);
-        }
-    }
-    fs::remove_file(&input).expect("the sheet can be removed");
-    let [ours, rust] = times.map(median);
-    print_row("sheet, 2,000 vertices, 256 cut views", ours, rust);
-}
-
-fn run_time(program: &Path, input: &Path) -> Duration {
-    let start = Instant::now();
-    let status = Command::new(program)
-        .stdin(File::open(input).expect("the sheet can be read"))
-        .stdout(Stdio::null())
-        .status();
-    let time = start.elapsed();
-    assert!(status.is_ok_and(|status| status.success()));
-    time
 }
 
 /// A call's name as the C face has it.
