@@ -45,14 +45,13 @@ fn write_part(
 }
 
 // Writes the parts, in order: joined, they are all that the sheet prints.
-fn write_parts(bytes: &[u8], outline: &[f64], parts: usize) -> bool
+fn write_parts(bytes: &[u8], outline: &[f64], parts: usize, text: &mut [u8; PART_BYTES]) -> bool
     requires { ⌜ joined (partText (now bytes) (now outline)) parts ≡ sheetText (now bytes) ⌝ }
 {
     let mut list = [0.0f64; LIST_NUMBERS];
-    let mut text = [0u8; PART_BYTES];
     let mut k = 0;
     while k < parts {
-        if !write_part(bytes, outline, k, &mut list, &mut text) {
+        if !write_part(bytes, outline, k, &mut list, text) {
             return false;
         }
         k += 1;
@@ -70,16 +69,14 @@ fn write_refused(bytes: &[u8], number: u8, text: &mut [u8; PART_BYTES]) -> bool
 
 // Writes all that the sheet prints; false where the output takes no more.
 pub(crate) fn write_sheet(bytes: &[u8]) -> bool {
+    let mut text = [0u8; PART_BYTES];
     let mut outline = [0.0f64; OUTLINE_NUMBERS];
     let answer = job::open_sheet(bytes, &mut outline);
     match answer {
-        OpenAnswer::Refused(number) => {
-            let mut text = [0u8; PART_BYTES];
-            write_refused(bytes, number, &mut text)
-        }
+        OpenAnswer::Refused(number) => write_refused(bytes, number, &mut text),
         OpenAnswer::Given(opened) => {
             let numbers = opened.numbers;
-            write_parts(bytes, &outline[..numbers], opened.parts)
+            write_parts(bytes, &outline[..numbers], opened.parts, &mut text)
         }
     }
 }

@@ -5,10 +5,10 @@ use Rattle.sheet.proofs.output.write_parts.Statement.{statement}
 use Rattle.sheet.proofs.output.write_parts.Tie as tie
 
 abbrev Inv-loop : tie.InvT-loop
-Inv-loop bytes outline parts list₀ text₀ k₀ list text k = Unit {0}
+Inv-loop bytes outline parts text₀ list₀ k₀ text list k = Unit {0}
 
 abbrev μ-loop : tie.MeasureT-loop
-μ-loop bytes outline parts list₀ text₀ k₀ list text k = parts - k
+μ-loop bytes outline parts text₀ list₀ k₀ text list k = parts - k
 
 pub write-parts-spec : {M : Type 1} → statement M
 write-parts-spec =

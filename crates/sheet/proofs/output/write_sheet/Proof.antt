@@ -39,7 +39,7 @@ slice-aggregate-write-parts c =
 
 write-parts-requires : tie.Need-write-parts-requires
 write-parts-requires c κs =
-    let at-answer = c .before .before in
+    let at-answer = c .before .before .before in
     let at-open = at-answer .before .before in
     let o = at-open .open-sheet in
     let b = now (at-open .before .before .before .args .bytes) in
