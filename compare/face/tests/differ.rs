@@ -9,13 +9,6 @@ use cases::stored;
 use face::Bisquefern;
 use oracle::Oracle;
 
-/// Fewer where they go through an emulator.
-const CALLS: u64 = if cfg!(target_arch = "x86_64") {
-    300_000
-} else {
-    30_000
-};
-
 fn rounds() -> u64 {
     match std::env::var("BISQUEFERN_ROUNDS") {
         Ok(word) => word.parse().expect("BISQUEFERN_ROUNDS is a whole number"),
@@ -33,7 +26,7 @@ fn calls_and_sheets() {
     let program = sheet_program().unwrap();
     let mut report = Report::default();
     for round in 0..rounds() {
-        compare_calls(&Bisquefern, 100 + round, CALLS, &mut report);
+        compare_calls(&Bisquefern, 100 + round, 300_000, &mut report);
         compare_sheets(
             |bytes| printed(&program, bytes),
             200 + round,

@@ -161,7 +161,7 @@ pub fn run(k: u64, call: u64, n: u64) -> bool {
     let mut whole = [0u64; 8];
     let mut byte = [0u8; 256];
     read_words(&mut words, n);
-    numbers(&words, 1, &mut s);
+    numbers(&words, 1, n, &mut s);
     let r = room_of(call, word(&words, n - 2), word(&words, n - 1));
     let code = lend(call, &words, &s, r, &mut out, &mut whole, &mut byte);
     print_code(k, code);

@@ -88,9 +88,9 @@ pub fn on_outline(call: u64, words: &[u64], at: u64, s: &[f64], out: &mut [u8]) 
         return new_start(words, at, s, out);
     }
     let mut vertex = [0.0; 16];
-    numbers(words, wrapping_add_u64(at, 5), &mut vertex);
-    let n = word(words, wrapping_add_u64(at, 4)) as usize;
-    create_of(words, at, s, &vertex, n, out)
+    let n = word(words, wrapping_add_u64(at, 4));
+    numbers(words, wrapping_add_u64(at, 5), n, &mut vertex);
+    create_of(words, at, s, &vertex, n as usize, out)
 }
 
 // Calls 13 to 19, past the record: a closed flag before it, or numbers at `past` after it.

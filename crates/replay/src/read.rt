@@ -65,10 +65,10 @@ pub fn low_byte(x: u64) -> u8 {
     (x & 0xff) as u8
 }
 
-// The numbers from a place on, as far as there is room.
-pub fn numbers(words: &[u64], at: u64, out: &mut [f64]) {
+// n numbers from a place on, as far as there is room.
+pub fn numbers(words: &[u64], at: u64, n: u64, out: &mut [f64]) {
     let mut k = 0;
-    while k < out.len() {
+    while k < out.len() && (k as u64) < n {
         out[k] = number(words, std::num::wrapping_add_u64(at, k as u64));
         k += 1;
     }
