@@ -19,6 +19,14 @@ fn sheets() {
 }
 
 #[test]
+fn largest() {
+    let usage = "usage: largest [PROGRAM], another build of sheet\n";
+    for words in [&["absent"][..], &["absent", "absent"], &["."]] {
+        expect_end(env!("CARGO_BIN_EXE_largest"), words, usage);
+    }
+}
+
+#[test]
 fn vectors() {
     let usage =
         "usage: vectors [--roots] CASES_FILE EXPECTED_FILE; --roots writes only the square roots\n";

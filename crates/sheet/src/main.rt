@@ -20,7 +20,6 @@ fn answer(bytes: &[u8]) {
 }
 
 fn main() {
-    // one byte more than the longest sheet, so that a longer input is seen to be one
     let mut buffer = [0u8; SHEET_BYTES + 1];
     let input = read_input(&mut buffer);
     match input {
