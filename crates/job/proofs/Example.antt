@@ -15,7 +15,7 @@ use Rattle.view.specs.Validation.{bulgesMatch, endVerdict, placedVerdict, count
 use Rattle.record.specs.Bytes.{le16, le32, le64, floatAt}
 use Rattle.text.specs.Digits.{hex, decimals, decimal, float}
 use Rattle.job.specs.Rows.{row, numbered}
-use Rattle.job.specs.Header.{headerFits, headerOk}
+use Rattle.job.specs.Header.{headerUnder, headerOk}
 use Rattle.record.specs.Record.{fieldsOk}
 use Rattle.job.specs.Outline.{numbersIn}
 use Rattle.job.specs.Extent.{boxTo}
@@ -26,5 +26,5 @@ use Rattle.job.specs.Parts.{boxLine, wholeText, sheetText}
 use Rattle.job.specs.Example.{exampleSheet, exampleText}
 
 pub example : sheetText exampleSheet ≡ exampleText
-unfolding ofBits toBits neg add sub mul div lt le eq absOf rootOf wholeOutline coordOk bulgeOk pointOk vertexOk radiusOf centerOf arcClosest closestOf startRadius endRadius arcBoxBy arcBox boxOf tab forward vertexAt viewList all numbersOk recordOk onSegmentOf onOutline bulgesMatch endVerdict placedVerdict countedVerdict validateOf acrossGap markOf le16 le32 le64 floatAt hex decimals decimal float row numbered headerFits headerOk fieldsOk numbersIn boxTo recordsOf sheetOf refusedLine outlineLine floats boundsLine viewHead viewLine markText verdictText viewText boxLine wholeText sheetText
+unfolding ofBits toBits neg add sub mul div lt le eq absOf rootOf wholeOutline coordOk bulgeOk pointOk vertexOk radiusOf centerOf arcClosest closestOf startRadius endRadius arcBoxBy arcBox boxOf tab forward vertexAt viewList all numbersOk recordOk onSegmentOf onOutline bulgesMatch endVerdict placedVerdict countedVerdict validateOf acrossGap markOf le16 le32 le64 floatAt hex decimals decimal float row numbered headerUnder headerOk fieldsOk numbersIn boxTo recordsOf sheetOf refusedLine outlineLine floats boundsLine viewHead viewLine markText verdictText viewText boxLine wholeText sheetText
 example = refl

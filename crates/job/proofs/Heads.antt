@@ -9,10 +9,10 @@ use borrow.Author.Tests.{leb-true, eqb-true}
 use Rattle.plane.specs.Range.{mostVertices}
 use Rattle.view.proofs.All.{and-both}
 use Rattle.job.specs.declared.header.Header.{Header}
-use Rattle.job.specs.Header.{mostViews, headerSize, vertexSize, headerOf, headerFits, headerOk, Headed}
+use Rattle.job.specs.Header.{mostViews, headerSize, vertexSize, headerOf, headerUnder, headerFits, headerOk, Headed}
 
 pub headed : (b : List ℕ) (h : Header) → headerOk b ≡ true → h ≡ headerOf b → Headed b h
-unfolding headerOk headerFits
+unfolding headerOk headerUnder
 headed b h ok e =
     let fits = subst (λ (k : Header). headerFits k (length b) ≡ true) (sym e) ok in
     let flags = and-both (eqb (h .version) 1) _ fits .1 in

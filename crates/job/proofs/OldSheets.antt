@@ -1,11 +1,11 @@
 -- Under two limits, neither of them below its vertex count, a sheet prints the same: the tests that ask for the limit hold under both.
 use mathlib.Core.Path.{_≡_, refl, sym, ap, ap₂, _∙_}
-use Prim.Native.Nat.{ℕ, _*_, _/_, _%_, _≤_, _<_}
+use Prim.Native.Nat.{ℕ, _*_, _/_, _≤_, _<_}
 use native.Mathlib.Omega.{arith}
 use mathlib.Core.Bool.{Bool, true, false, _&&_}
 use mathlib.Core.List.{List, _++_}
 use lib.ListN.{length}
-use lib.Dec.{leb, eqb}
+use lib.Dec.{leb}
 use borrow.Author.Tests.{le-leb, lt-leb}
 use Rattle.real.specs.Refusal.{badNumber, badOutline, badSheet, badRecord}
 use Rattle.real.specs.Reply.{given, check}
@@ -16,14 +16,14 @@ use Rattle.view.specs.Outline.{numbersOk}
 use Rattle.view.specs.Record.{recordOk}
 use Rattle.view.specs.Validation.{countedVerdict, validateOf}
 use Rattle.view.specs.declared.view_data.PlineViewData.{PlineViewData}
-use Rattle.job.specs.Header.{headerOf, closed, headerFits, headerOk}
+use Rattle.job.specs.Header.{headerOf, closed, headerUnder, headerOk}
 use Rattle.job.specs.Outline.{numbersIn}
 use Rattle.job.specs.Sheet.{vertices, outlineOf, recordsOf, recordsOk, verticesOk, sheetOf}
 use Rattle.job.specs.Rows.{numbered}
 use Rattle.job.specs.Lines.{refusedLine, outlineLine}
 use Rattle.job.specs.Views.{verdictText, viewText}
 use Rattle.job.specs.Parts.{boxLine, answerText, wholeText, sheetText}
-use Rattle.job.specs.OldSheets.{oldMost, headerUnder, wholeUnder, validateUnder, viewTextUnder, wholeTextUnder, sheetTextUnder, OldSheets}
+use Rattle.job.specs.OldSheets.{oldMost, wholeUnder, validateUnder, viewTextUnder, wholeTextUnder, sheetTextUnder, OldSheets}
 use Rattle.job.proofs.Joined.{numbered-ext}
 
 module _ (m n : ℕ) (b : List ℕ) (p : vertices b ≤ m) (q : vertices b ≤ n) where
@@ -68,7 +68,7 @@ unfolding sheetTextUnder headerUnder
 over m b h = simp (lt-leb (vertices b) m h, and-false)
 
 stands : (b : List ℕ) → sheetTextUnder mostVertices b ≡ sheetText b
-unfolding sheetTextUnder headerUnder wholeTextUnder viewTextUnder validateUnder wholeUnder sheetText sheetOf headerOk headerFits wholeText viewText validateOf wholeOutline
+unfolding sheetTextUnder wholeTextUnder viewTextUnder validateUnder wholeUnder sheetText sheetOf headerOk wholeText viewText validateOf wholeOutline
 stands b = refl
 
 pub old-sheets : (b : List ℕ) → OldSheets b

@@ -41,16 +41,19 @@ abbrev pub fast : Header → Bool
 fast h = eqb (h .flags / 2 % 2) 1
 
 -- what refusal 11 asks of a header over a sheet of n bytes: "wrong length, version, count, offset or unknown flag"; "vertex offset (4) = 16, view
--- offset (4) = 16 + 24V"; "Length is exactly 16 + 24V + 64W."
-unfoldable pub headerFits : Header → ℕ → Bool
-headerFits h n =
+-- offset (4) = 16 + 24V"; "Length is exactly 16 + 24V + 64W." The vertex limit is `most`.
+unfoldable pub headerUnder : ℕ → Header → ℕ → Bool
+headerUnder most h n =
     eqb (h .version) 1
     && (ltb (h .flags) 4
-    && (leb (h .vertices) mostVertices
+    && (leb (h .vertices) most
     && (leb (h .views) mostViews
     && (eqb (h .«vertex_offset») headerSize
     && (eqb (h .«view_offset») (headerSize + vertexSize * h .vertices)
     && eqb n (headerSize + vertexSize * h .vertices + recordSize * h .views))))))
+
+abbrev pub headerFits : Header → ℕ → Bool
+headerFits = headerUnder mostVertices
 
 unfoldable pub headerOk : List ℕ → Bool
 headerOk b = headerFits (headerOf b) (length b)

@@ -1,11 +1,11 @@
 -- What a sheet prints at a table with another vertex limit: "The layout and version stay, and every old sheet reads the same. A table not yet updated
 -- refuses a larger sheet with 11, as we want."
 use mathlib.Core.Path.{_≡_}
-use Prim.Native.Nat.{ℕ, _+_, _*_, _/_, _%_, _≤_, _<_}
+use Prim.Native.Nat.{ℕ, _/_, _%_, _≤_, _<_}
 use mathlib.Core.Bool.{Bool, _&&_}
 use mathlib.Core.List.{List, _++_}
 use lib.ListN.{length}
-use lib.Dec.{ltb, leb, eqb}
+use lib.Dec.{leb, eqb}
 use lib.Ieee.{Float}
 use Rattle.real.specs.Refusal.{badNumber, badOutline, badSheet, badRecord}
 use Rattle.real.specs.Reply.{Reply, given, check}
@@ -15,9 +15,7 @@ use Rattle.view.specs.Outline.{numbersOk}
 use Rattle.view.specs.Record.{recordOk}
 use Rattle.view.specs.Validation.{Verdict, countedVerdict}
 use Rattle.view.specs.declared.view_data.PlineViewData.{PlineViewData}
-use Rattle.record.specs.Layout.{recordSize}
-use Rattle.job.specs.declared.header.Header.{Header}
-use Rattle.job.specs.Header.{mostViews, headerSize, vertexSize, headerOf, closed}
+use Rattle.job.specs.Header.{headerOf, closed, headerUnder}
 use Rattle.job.specs.Sheet.{vertices, outlineOf, recordsOf, recordsOk, verticesOk}
 use Rattle.job.specs.Rows.{numbered}
 use Rattle.job.specs.Lines.{refusedLine, outlineLine}
@@ -28,18 +26,8 @@ use Rattle.job.specs.Parts.{boxLine, answerText, sheetText}
 abbrev pub oldMost : ℕ
 oldMost = 1024
 
--- A sheet's text asks for the limit in two tests, the header's and validation's. Here they take it as a number, and what they stand in is written out around them.
+-- A sheet's text asks for the limit in two tests, the header's and validation's. Here both take another, and what they stand in is written out around them.
 module _ (most : ℕ) where
-  unfoldable pub headerUnder : Header → ℕ → Bool
-  headerUnder h n =
-      eqb (h .version) 1
-      && (ltb (h .flags) 4
-      && (leb (h .vertices) most
-      && (leb (h .views) mostViews
-      && (eqb (h .«vertex_offset») headerSize
-      && (eqb (h .«view_offset») (headerSize + vertexSize * h .vertices)
-      && eqb n (headerSize + vertexSize * h .vertices + recordSize * h .views))))))
-
   unfoldable pub wholeUnder : ℕ → Bool
   wholeUnder n = eqb (n % 3) 0 && leb (n / 3) most
 
@@ -60,7 +48,7 @@ module _ (most : ℕ) where
   unfoldable pub sheetTextUnder : List ℕ → List ℕ
   sheetTextUnder b =
       answerText
-      (check (headerUnder (headerOf b) (length b)) badSheet
+      (check (headerUnder most (headerOf b) (length b)) badSheet
       (check (recordsOk b) badRecord
       (check (verticesOk b) badNumber
       (given (wholeTextUnder b)))))
