@@ -70,11 +70,15 @@ stands : (b : List ℕ) → sheetTextUnder mostVertices b ≡ sheetText b
 unfolding sheetTextUnder wholeTextUnder viewTextUnder validateUnder wholeUnder sheetText sheetOf headerOk wholeText viewText validateOf wholeOutline
 stands b = refl
 
+read : (b : List ℕ) (m : ℕ) → vertices b ≤ m → vertices b ≤ mostVertices → sheetTextUnder m b ≡ sheetText b
+read b m p q = same-under m mostVertices b p q ∙ stands b
+
 pub old-sheets : (b : List ℕ) → OldSheets b
 old-sheets b =
     record {
       stands = stands b;
-      same = λ h. same-under oldMost mostVertices b h (omega (arith, h)) ∙ stands b;
+      read = read b;
+      same = λ h. read b oldMost h (omega (arith, h));
       older = over oldMost b;
       larger = λ h. sym (stands b) ∙ over mostVertices b h;
     }

@@ -57,6 +57,8 @@ module _ (most : ℕ) where
 pub record OldSheets (b : List ℕ) : Type 0 where
   -- under the limit that stands this is the text that stands
   pub stands : sheetTextUnder mostVertices b ≡ sheetText b
+  -- up to 2,000 vertices a sheet prints what it would under any limit that it keeps: it is never refused for their number
+  pub read : (m : ℕ) → vertices b ≤ m → vertices b ≤ mostVertices → sheetTextUnder m b ≡ sheetText b
   -- "every old sheet reads the same"
   pub same : vertices b ≤ oldMost → sheetTextUnder oldMost b ≡ sheetText b
   -- "A table not yet updated refuses a larger sheet with 11"
