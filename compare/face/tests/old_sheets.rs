@@ -2,7 +2,8 @@
 //!
 //! `cases/old/sheets` has one after the other, each behind its length (4 bytes, little-endian). `cases/old/texts` has a
 //! line for each: the length of its text, the text's 64-bit FNV-1a hash, and its first line. The oracle wrote them under
-//! the old limit, and the program printed the same.
+//! the old limit, the program printed the same, and nothing makes them anew: where a text gets a field more, take that out
+//! before it is held to its line.
 
 use cases::repository;
 use cases::sheets::{printed, sheet_program};
