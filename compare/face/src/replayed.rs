@@ -134,6 +134,21 @@ fn record(case: Case, out: &mut [u8]) -> u8 {
     refusal
 }
 
+/// With other limits than replay has, the rest of a case would be read as the next one.
+#[test]
+fn the_limits_are_those_of_replay() {
+    let source = repository().join("crates/replay/src/case.rt");
+    let source = std::fs::read_to_string(source).expect("replay's source can be read");
+    for line in [
+        format!("const MOST: usize = {MOST};"),
+        format!("let mut whole = [0u64; {MOST_WHOLES}];"),
+        format!("let mut byte = [0u8; {MOST_BYTES}];"),
+        format!("const UNFIT: u8 = {UNFIT};"),
+    ] {
+        assert!(source.contains(&line), "replay has no line: {line}");
+    }
+}
+
 /// The library that is judged.
 #[derive(Debug, Clone, Copy)]
 pub struct Bisquefern;

@@ -1,9 +1,10 @@
-//! "Every old sheet reads the same": sheets from when an outline had at most 1,024 vertices, and what they printed then.
+//! "Every old sheet reads the same": sheets that `cases` drew just before the limit of 1,024 vertices was raised, its largest
+//! one first, and what they printed then.
 //!
 //! `cases/old/sheets` has one after the other, each behind its length (4 bytes, little-endian). `cases/old/texts` has a
-//! line for each: the length of its text, the text's 64-bit FNV-1a hash, and its first line. The oracle wrote them under
-//! the old limit, the program printed the same, and nothing makes them anew: where a text gets a field more, take that out
-//! before it is held to its line.
+//! line for each: the length of its text, the text's 64-bit FNV-1a hash, and its first line. The oracle printed them
+//! under the old limit, and so did the program. Nothing makes them anew: where a text gets a field more, take that out before it
+//! is held to its line.
 
 use cases::repository;
 use cases::sheets::{printed, sheet_program};
