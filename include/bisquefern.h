@@ -84,7 +84,11 @@ uint8_t bf_vertex(const double *numbers, size_t numbers_len, double *out, size_t
 /* Radius, centre x, centre y. 3, 1, 6, 8. */
 uint8_t bf_seg_arc_radius_and_center(const double *seg, size_t seg_len, double *out, size_t out_len);
 
-/* The updated start and the split vertex: 6 numbers. 3, 1, 2, 8. */
+/* The updated start and the split vertex: 6 numbers. 3, 1, 2, 8.
+ *
+ * Each part may be split again, as often as one likes: the first part is the 6 numbers, the second the last 3 of them and
+ * then the end of `seg`. Its bulge is in range again, so that a call with 6 numbers and room refuses only a point or a
+ * tolerance. A point off the arc can turn a part to the other side. */
 uint8_t bf_seg_split_at_point(const double *seg, size_t seg_len, double x, double y, double tolerance, double *out,
                               size_t out_len);
 

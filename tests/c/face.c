@@ -28,6 +28,10 @@ static const double G[6] = {2, 2, 1, 4, 2, 0};
 /* A half circle of radius 2.5 about (1.5,2), from (0,0) to (3,4). Its two boxes differ. */
 static const double SLANTED[6] = {0, 0, 1, 3, 4, 0};
 
+/* An arc from (0,0) to (1,0), and the second part of its split at (-1,1), which is turned to the other side. */
+static const double BOWED[6] = {0, 0, 0.5, 1, 0, 0};
+static const double TURNED[6] = {-1, 1, -1.0 / 3, 1, 0, 0};
+
 /* A line from (0,0) to (4,2). */
 static const double LINE[6] = {0, 0, 0, 4, 2, 0};
 
@@ -132,6 +136,8 @@ static void call_segments(void)
 
     say("P6", NUMBERS, 6, bf_seg_split_at_point(H, 6, 3, 0, 1e-5, numbers, 6));
     say("split in the middle", ROUGH, 6, bf_seg_split_at_point(H, 6, 0.5, -0.5, 1e-5, numbers, 6));
+    say("split off the arc", ROUGH, 6, bf_seg_split_at_point(BOWED, 6, -1, 1, 1e-5, numbers, 6));
+    say("second part split", ROUGH, 6, bf_seg_split_at_point(TURNED, 6, -1, 1, 1e-5, numbers, 6));
     say("split, tolerance 0", NUMBERS, 6, bf_seg_split_at_point(H, 6, 3, 0, 0, numbers, 6));
 
     say("P4", NUMBERS, 2, bf_seg_tangent_vector(G, 6, 3, 1, numbers, 2));

@@ -13,6 +13,8 @@ A wrong answer is a block of lines, with a blank line before the next:
     # NAME: what it would be.
     # refused: FUNCTION, as the prover names it, without the crate; or a file of laws, as proofs/Lists.antt
     file: .. old: .. new: .., as rt reads them
+
+One that changes a function and its definition alike leaves the function proved, and is refused by the law that no longer holds of it.
 """
 import itertools
 import pathlib
@@ -20,6 +22,7 @@ import re
 import sys
 
 ROOT = pathlib.Path(__file__).resolve().parents[2]
+EDIT = re.compile(r"(file( old new)+( |$))+")
 HEAD = re.compile(r"# ([a-z][a-z0-9_]*): (.+)\.$")
 REFUSED = re.compile(r"# refused: (proofs/[A-Za-z/]+\.antt|[A-Za-z0-9_:]+)$")
 # what an error says where a proof does not fit the code's shape any more: a step that it names is gone, or it spells the code
@@ -37,8 +40,8 @@ def blocks(edit):
         lines = block.split("\n")
         head = HEAD.match(lines[0])
         refused = REFUSED.match(lines[1]) if len(lines) > 1 else None
-        keys = [line.split(":")[0] for line in lines[2:]]
-        if not head or not refused or keys[:1] != ["file"] or keys[1:] != ["old", "new"] * (len(keys) // 2) or len(keys) < 3:
+        keys = " ".join(line.split(":")[0] for line in lines[2:])
+        if not head or not refused or not EDIT.fullmatch(keys):
             raise Wrong(f"{edit.relative_to(ROOT)}: not a wrong answer in the form that this test reads: {lines[0]}")
         yield head[1], refused[1]
 
@@ -91,11 +94,11 @@ def judge(edit, names, show):
             raise Wrong(f"{crate}/{name}: refused for the code's shape, and not for a fact: {first}")
         if show:
             print(f"{crate}/{name}: {first}")
-    functions = [part for _, part in parts]
-    if len(set(functions)) < len(functions):
+    if len({part for _, part in parts}) < len(parts):
         raise Wrong(f"{edit.relative_to(ROOT)}: two wrong answers of one function")
-    if any(not part.endswith(".antt") for part in functions) and set(alone) != set(functions):
-        raise Wrong(f"{edit.relative_to(ROOT)}: refused too, and not named: {', '.join(sorted(set(alone) - set(functions)))}")
+    functions = {part for _, part in parts if not part.endswith(".antt")}
+    if functions and set(alone) != functions:
+        raise Wrong(f"{edit.relative_to(ROOT)}: refused too, and not named: {', '.join(sorted(set(alone) - functions))}")
     return len(parts)
 
 

@@ -60,6 +60,11 @@ impl Generator {
         self.trouble = self.random.pick(&[0, 0, 0, 0, 0, 0, 4, 12, 40]);
     }
 
+    /// The case at hand is not damaged.
+    pub fn no_trouble(&mut self) {
+        self.trouble = 0;
+    }
+
     fn troubled(&mut self) -> bool {
         self.random.chance(self.trouble)
     }
@@ -114,7 +119,7 @@ impl Generator {
     }
 
     /// A tolerance; out of range where there is trouble.
-    fn tolerance(&mut self) -> f64 {
+    pub fn tolerance(&mut self) -> f64 {
         if self.troubled() {
             let r = &mut self.random;
             return r.pick(&[

@@ -14,6 +14,7 @@ pub mod random;
 pub mod report;
 pub mod rows;
 pub mod sheets;
+pub mod splits;
 pub mod start;
 pub mod stored;
 

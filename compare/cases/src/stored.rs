@@ -283,9 +283,33 @@ pub fn gap() -> Vec<Case> {
     cases
 }
 
+/// An arc from (0,0) to (1,0) that a point off it turns, (-1,1), and the same bowed to the other side; then the second
+/// result, which is turned, and the first, a half circle, each split again at that point: its start and its end.
+pub fn turned() -> Vec<Case> {
+    let split = |x, y, bulge, end_x, end_y| {
+        let case = Case::new(Call::SegSplitAtPoint).numbers(&[x, y, bulge, end_x, end_y, 0.0]);
+        case.number(-1.0).number(1.0).number(1e-5).room(6)
+    };
+    vec![
+        split(0.0, 0.0, 0.5, 1.0, 0.0),
+        split(0.0, 0.0, -0.5, 1.0, 0.0),
+        split(-1.0, 1.0, -1.0 / 3.0, 1.0, 0.0),
+        split(0.0, 0.0, 1.0, -1.0, 1.0),
+    ]
+}
+
 /// The whole stored list.
 pub fn all() -> Vec<Case> {
-    [roots(), by_hand(), drawn(), long(), round(), gap()].concat()
+    let parts = [
+        roots(),
+        by_hand(),
+        drawn(),
+        long(),
+        round(),
+        gap(),
+        turned(),
+    ];
+    parts.concat()
 }
 
 /// A list's stored form, and the oracle's answers to it.

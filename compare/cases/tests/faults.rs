@@ -3,6 +3,7 @@
 use cases::compare::compare_calls;
 use cases::report::Report;
 use cases::sheets::compare_sheets;
+use cases::splits::compare_splits;
 use oracle::sheet::sheet_text;
 use oracle::{Library, Oracle, Vector2, record, view};
 
@@ -46,6 +47,10 @@ enum Fault {
     // The vertex limit.
     OldVertexLimit,
     OneVertexOverTheLimit,
+    // Rows of splits.
+    SplitAnUlpOverTheHalfCircle,
+    SplitHalfCircleRefused,
+    SplitTurnedBack,
 }
 
 struct Spoilt(Fault);
@@ -107,9 +112,19 @@ impl Library for Spoilt {
         tolerance: f64,
         out: &mut [f64],
     ) -> u8 {
+        let half_circle = seg.len() == 6 && seg[2].abs() == 1.0;
+        if self.is(Fault::SplitHalfCircleRefused) && half_circle {
+            return 1;
+        }
         let refusal = Oracle.seg_split_at_point(seg, x, y, tolerance, out);
-        if refusal == 0 && self.is(Fault::SplitAtTheEndOnThePoint) {
-            (out[3], out[4]) = (x, y);
+        if refusal != 0 {
+            return refusal;
+        }
+        match self.0 {
+            Fault::SplitAtTheEndOnThePoint => (out[3], out[4]) = (x, y),
+            Fault::SplitAnUlpOverTheHalfCircle if out[2] == 1.0 => out[2] = out[2].next_up(),
+            Fault::SplitTurnedBack => out[5] = out[5].copysign(seg[2]),
+            _ => {}
         }
         refusal
     }
@@ -414,6 +429,20 @@ fn each_fault_is_found() {
         let calls = found_within(fault);
         println!("{fault:?}: found within {calls:?} calls");
         assert!(calls.is_some(), "{fault:?} was not found");
+    }
+}
+
+#[test]
+fn each_fault_in_rows_of_splits_is_found() {
+    for fault in [
+        Fault::SplitAnUlpOverTheHalfCircle,
+        Fault::SplitHalfCircleRefused,
+        Fault::SplitTurnedBack,
+    ] {
+        let mut report = Report::default();
+        compare_splits(&Spoilt(fault), 3, 10_000, &mut report);
+        println!("{fault:?}: found {} times", report.different);
+        assert!(report.different > 0, "{fault:?} was not found");
     }
 }
 

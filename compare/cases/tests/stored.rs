@@ -3,7 +3,7 @@
 
 use cases::case::Call;
 use cases::repository;
-use cases::stored::{Q, all, files, gap, long, roots, round};
+use cases::stored::{Q, all, files, gap, long, roots, round, turned};
 use oracle::Oracle;
 use oracle::sheet::sheet_text;
 use std::fs;
@@ -67,7 +67,7 @@ fn the_list_covers_every_call_and_refusal() {
 #[test]
 fn the_list_knows_the_limit() {
     let cases = long();
-    let first = all().len() - gap().len() - round().len() - cases.len();
+    let first = all().len() - turned().len() - gap().len() - round().len() - cases.len();
     assert_eq!(all()[first..first + cases.len()], cases);
 
     let answers = cases.iter().map(|case| {
@@ -99,7 +99,7 @@ fn the_list_goes_round() {
     const ROUND: [usize; 8] = [0, 1, 2, 3, 0, 1, 2, 3];
     const MIDDLES: [[f64; 2]; 4] = [[2.0, 0.0], [5.0, 2.0], [2.0, 4.0], [0.0, 2.0]];
     let cases = round();
-    let first = all().len() - gap().len() - cases.len();
+    let first = all().len() - turned().len() - gap().len() - cases.len();
     assert_eq!(all()[first..first + cases.len()], cases);
 
     let lookups = |view: usize| {
@@ -127,7 +127,8 @@ fn the_list_goes_round() {
 fn the_list_stops_at_the_gap() {
     const STAY: [(usize, usize); 6] = [(0, 0), (0, 1), (0, 2), (1, 0), (1, 1), (2, 0)];
     let cases = gap();
-    assert_eq!(all()[all().len() - cases.len()..], cases);
+    let first = all().len() - turned().len() - cases.len();
+    assert_eq!(all()[first..first + cases.len()], cases);
     let mut marks = cases.iter().map(|case| {
         let outcome = case.run(&Oracle);
         assert_eq!(outcome.refusal, 0);
@@ -147,6 +148,28 @@ fn the_list_stops_at_the_gap() {
     assert_eq!(next(4), [false; 4]);
     assert_eq!(next(3), [true; 3]);
     assert_eq!(next(1), [] as [bool; 0]);
+}
+
+/// The arc that a point off it turns, by hand. Both chords are longer than the whole one, by more than the sine allows,
+/// so the nearer part is a half circle, and the other has bulge (1/2 - 1) / (1 + 1/2). A split at an arc's start leaves
+/// nothing before it, one at its end nothing behind it.
+#[test]
+fn the_list_turns_an_arc() {
+    const THIRD: f64 = 1.0 / 3.0;
+    let cases = turned();
+    assert_eq!(all()[all().len() - cases.len()..], cases);
+    let expected = [
+        [0.0, 0.0, 1.0, -1.0, 1.0, -THIRD],
+        [0.0, 0.0, -1.0, -1.0, 1.0, THIRD],
+        [-1.0, 1.0, 0.0, -1.0, 1.0, -THIRD],
+        [0.0, 0.0, 1.0, -1.0, 1.0, 0.0],
+    ];
+    for (case, expected) in cases.iter().zip(expected) {
+        let outcome = case.run(&Oracle);
+        assert_eq!(outcome.refusal, 0, "{case}");
+        let words = outcome.written(case.call);
+        assert_eq!(words, expected.map(f64::to_bits), "{case}");
+    }
 }
 
 #[test]

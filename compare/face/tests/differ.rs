@@ -5,6 +5,7 @@
 use cases::compare::compare_calls;
 use cases::report::Report;
 use cases::sheets::{compare_sheets, printed, sheet_program};
+use cases::splits::compare_splits;
 use cases::stored;
 use face::Bisquefern;
 use oracle::Oracle;
@@ -22,7 +23,7 @@ fn expect_no_difference(report: &Report) {
 }
 
 #[test]
-fn calls_and_sheets() {
+fn calls_sheets_and_rows_of_splits() {
     let program = sheet_program().unwrap();
     let mut report = Report::default();
     for round in 0..rounds() {
@@ -33,6 +34,8 @@ fn calls_and_sheets() {
             400,
             &mut report,
         );
+        let splits = compare_splits(&Bisquefern, 300 + round, 60_000, &mut report);
+        print!("{splits}");
     }
     expect_no_difference(&report);
     assert_eq!(report.gaps(), Vec::<String>::new());

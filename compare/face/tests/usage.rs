@@ -4,13 +4,14 @@ use cases::start::expect_end;
 
 #[test]
 fn differ() {
-    let usage = "usage: differ [CALLS [SHEETS [SEED]]], each a whole number\n";
+    let usage = "usage: differ [CALLS [SHEETS [STEPS [SEED]]]], each a whole number\n";
     for words in [
         &["abc"][..],
         &["-1"],
         &["1", "abc"],
         &["1", "1", "abc"],
-        &["1", "1", "1", "1"],
+        &["1", "1", "1", "abc"],
+        &["1", "1", "1", "1", "1"],
     ] {
         expect_end(env!("CARGO_BIN_EXE_differ"), words, usage);
     }

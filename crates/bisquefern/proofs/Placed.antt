@@ -10,7 +10,7 @@ use lib.Ieee.{Float}
 use borrow.Author.Tests.{ltb-true}
 use Rattle.real.specs.Refusal.{badTrim}
 use Rattle.real.specs.Reply.{Reply, given}
-use Rattle.real.proofs.Replies.{same-given, check-passed}
+use Rattle.real.proofs.Replies.{same-given, check-passed, and-both}
 use Rattle.plane.specs.Grade.{double}
 use Rattle.plane.specs.declared.vector2.Vector2.{Vector2}
 use Rattle.plane.specs.declared.pline_vertex.PlineVertex.{PlineVertex}
@@ -22,7 +22,6 @@ use Rattle.view.specs.Needs.{Placed}
 use Rattle.view.specs.Answers.{reverseOf, trimOf}
 use Rattle.view.specs.Create.{createOf, newStartOf}
 use Rattle.view.specs.declared.view_data.PlineViewData.{PlineViewData}
-use Rattle.view.proofs.All.{and-both}
 use Rattle.view.proofs.Checks.{Checked, evened, even-rest}
 use Rattle.view.proofs.Made.{create-fine, new-start-fine}
 use Rattle.record.specs.Record.{recordBytes}

@@ -1,13 +1,13 @@
 -- What the reading of an argument says of a call: the call goes on with what was read, or hands its refusal on.
 use mathlib.Core.Path.{_≡_, sym, ap, _∙_}
 use Prim.Native.Nat.{ℕ}
-use Rattle.real.specs.Reply.{Reply}
+use Rattle.real.specs.Reply.{Reply, andThen}
 use Rattle.plane.specs.declared.pline_vertex.PlineVertex.{PlineVertex}
 use Rattle.view.specs.declared.view_data.PlineViewData.{PlineViewData}
 use Rattle.record.specs.Record.{recordReply}
 use Rattle.record.specs.declared.record.RecordAnswer.{RecordAnswer}
 use Rattle.record.specs.declared.record.RecordAnswer.the-variants as record-case
-use Rattle.lent.specs.Lent.{Left, andThen}
+use Rattle.lent.specs.Lent.{Left}
 use Rattle.lent.specs.Segment.{segmentReply}
 use Rattle.lent.specs.declared.segment.SegmentAnswer.{SegmentAnswer}
 use Rattle.lent.specs.declared.segment.SegmentAnswer.the-variants as segment

@@ -10,7 +10,7 @@ use lib.Ieee.{Float, binary64, fits}
 use lib.Ieee.Bits.{ofBits-fits}
 use borrow.Author.Tests.{le-leb}
 use Rattle.real.specs.Refusal.{noRoom}
-use Rattle.real.specs.Reply.{Reply, refused, given}
+use Rattle.real.specs.Reply.{Reply, refused, given, andThen}
 use Rattle.real.proofs.Replies.{same-given, check-passed}
 use Rattle.plane.specs.Grade.{double}
 use Rattle.plane.specs.Range.{mostVertices}
@@ -30,7 +30,7 @@ use Rattle.view.proofs.Shape.{list-count}
 use Rattle.record.specs.Bytes.{floatAt}
 use Rattle.record.specs.Record.{recordFrom, recordBytes}
 use Rattle.record.proofs.Records.{record-length, read, from-small}
-use Rattle.lent.specs.Lent.{andThen, heldBy, lent, both, Answered}
+use Rattle.lent.specs.Lent.{heldBy, lent, both, Answered}
 use Rattle.lent.specs.Values.{listReply}
 use Rattle.bisquefern.specs.Rows.{bytesAfter, Doubles, stepReply, bytesRow, BytesDemand3}
 use Rattle.bisquefern.proofs.Placed.{turned, trimmed}

@@ -6,13 +6,12 @@ use lib.Dec.{eqb}
 use lib.ListN.{length, getD}
 use lib.Ieee.{Float, nan}
 use Rattle.real.specs.Refusal.{badOutline}
-use Rattle.real.specs.Reply.{Reply, check}
+use Rattle.real.specs.Reply.{Reply, check, andThen}
 use Rattle.plane.specs.Vertex.{vertexAt}
 use Rattle.plane.specs.declared.vector2.Vector2.{Vector2}
 use Rattle.plane.specs.declared.pline_vertex.PlineVertex.{PlineVertex}
 use Rattle.view.specs.declared.view_data.PlineViewData.{PlineViewData}
 use Rattle.record.specs.Record.{recordFrom}
-use Rattle.lent.specs.Lent.{andThen}
 use Rattle.lent.specs.Segment.{segmentFrom}
 
 -- a call on the segment of a slice

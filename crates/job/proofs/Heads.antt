@@ -6,8 +6,8 @@ use Prim.Native.Nat.{ℕ, _+_, _*_}
 use lib.ListN.{length}
 use lib.Dec.{leb, ltb, eqb}
 use borrow.Author.Tests.{leb-true, eqb-true}
+use Rattle.real.proofs.Replies.{and-both}
 use Rattle.plane.specs.Range.{mostVertices}
-use Rattle.view.proofs.All.{and-both}
 use Rattle.job.specs.declared.header.Header.{Header}
 use Rattle.job.specs.Header.{mostViews, headerSize, vertexSize, headerOf, headerUnder, headerFits, headerOk, Headed}
 

@@ -8,8 +8,8 @@ use lib.ListN.{length}
 use lib.Ieee.{Float}
 use borrow.Author.Tests.{le-leb, lt-leb}
 use Rattle.real.specs.Refusal.{noRoom}
-use Rattle.real.specs.Reply.{Reply, refused, given, check}
-use Rattle.lent.specs.Lent.{andThen, codeOf, heldBy, Left, lent, inFront, hasRoom, itself, Answered, Both, both, lentBoth, BothAnswered}
+use Rattle.real.specs.Reply.{Reply, refused, given, check, andThen}
+use Rattle.lent.specs.Lent.{codeOf, heldBy, Left, lent, inFront, hasRoom, itself, Answered, Both, both, lentBoth, BothAnswered}
 
 -- refused by the call behind it
 pub refuses : {A C : Type 0} {n : ℕ} {x : Reply A} {store : A → Reply C} {before : C} → refused n ≡ x → Left x store before n before

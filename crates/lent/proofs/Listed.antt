@@ -8,7 +8,7 @@ use lib.ListN.{length, drop}
 use lib.Ieee.{Float}
 use borrow.Author.Tests.{le-leb, lt-leb}
 use Rattle.real.specs.Refusal.{badNumber, badOutline, badIndex, badOffset, noRoom}
-use Rattle.real.specs.Reply.{Reply, refused, given, check}
+use Rattle.real.specs.Reply.{Reply, refused, given, check, andThen}
 use Rattle.plane.specs.Grade.{double}
 use Rattle.lists.specs.Plain.{flat}
 use Rattle.view.specs.Outline.{countOf, viewable, numbersOk}
@@ -18,7 +18,7 @@ use Rattle.view.specs.Answers.{vertexCountOf, listOf, listBuffer, bufferAfter, 
 use Rattle.view.specs.declared.view_data.PlineViewData.{PlineViewData}
 use Rattle.lists.proofs.Tab.{length-flat}
 use Rattle.view.proofs.Shape.{list-count}
-use Rattle.lent.specs.Lent.{andThen, codeOf, heldBy, lent, lentBoth, inFront, hasRoom, itself, one, both, Answered, BothAnswered}
+use Rattle.lent.specs.Lent.{codeOf, heldBy, lent, lentBoth, inFront, hasRoom, itself, one, both, Answered, BothAnswered}
 use Rattle.lent.specs.Values.{listReply}
 use Rattle.lent.proofs.Laws.{replies}
 

@@ -9,13 +9,13 @@ use lib.ListN.{length, drop}
 use lib.Ieee.{Float}
 use borrow.Author.Tests.{lt-ltb}
 use Rattle.real.specs.Refusal.{noRoom}
-use Rattle.real.specs.Reply.{Reply, refused, given, check}
+use Rattle.real.specs.Reply.{Reply, refused, given, check, andThen}
 use Rattle.view.specs.Needs.{Placed}
 use Rattle.view.specs.declared.view_data.PlineViewData.{PlineViewData}
 use Rattle.record.specs.Layout.{recordSize, wordLimit}
 use Rattle.record.specs.Record.{recordBytes, recordTo, bufferBy, recordBuffer}
 use Rattle.record.proofs.Records.{record-length}
-use Rattle.lent.specs.Lent.{andThen, codeOf, heldBy, lent, Answered}
+use Rattle.lent.specs.Lent.{codeOf, heldBy, lent, Answered}
 use Rattle.lent.specs.Values.{recordLent, RecordAnswered}
 
 module _ {d : PlineViewData} {before after : List ℕ} where

@@ -7,13 +7,8 @@ use lib.ListN.{length, drop}
 use lib.Dec.{leb}
 use lib.Ieee.{Float, binary64}
 use Rattle.real.specs.Refusal.{noRoom}
-use Rattle.real.specs.Reply.{Reply, refused, given, check}
+use Rattle.real.specs.Reply.{Reply, refused, given, check, andThen}
 use Rattle.real.specs.Sqrt.{IsSqrt}
-
--- the rest of a call, past what is refused before it
-unfoldable pub andThen : {A B : Type 0} → Reply A → (A → Reply B) → Reply B
-andThen (refused n) rest = refused n
-andThen (given a) rest = rest a
 
 -- 0 where it answers, else the refusal
 unfoldable pub codeOf : {A : Type 0} → Reply A → ℕ

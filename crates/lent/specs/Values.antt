@@ -4,7 +4,7 @@ use mathlib.Core.List.{List, [], _∷_}
 use Prim.Native.Nat.{ℕ}
 use lib.ListN.{length, getD}
 use lib.Ieee.{Float}
-use Rattle.real.specs.Reply.{Reply, given}
+use Rattle.real.specs.Reply.{Reply, given, andThen}
 use Rattle.plane.specs.Grade.{double}
 use Rattle.plane.specs.declared.vector2.Vector2.{Vector2}
 use Rattle.plane.specs.declared.pline_vertex.PlineVertex.{PlineVertex}
@@ -17,7 +17,7 @@ use Rattle.view.specs.Answers.{vertexCountOf}
 use Rattle.view.specs.Validation.{Verdict, MarkCase, cut, hold}
 use Rattle.view.specs.declared.view_data.PlineViewData.{PlineViewData}
 use Rattle.record.specs.Record.{recordTo, recordBuffer}
-use Rattle.lent.specs.Lent.{andThen, Left, Both, both}
+use Rattle.lent.specs.Lent.{Left, Both, both}
 
 abbrev pub pointNumbers : Vector2 → List Float
 pointNumbers p = p .x ∷ p .y ∷ []

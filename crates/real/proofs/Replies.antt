@@ -1,6 +1,6 @@
--- What the answer of a chain of checks says: each test before it holds, and a refusal does not depend on what comes after it.
+-- What the answer of a chain of checks says: each test before it holds, with both its parts, and a refusal does not depend on what comes after it.
 use mathlib.Core.Path.{_≡_, refl, sym, ap}
-use mathlib.Core.Bool.{Bool, true, false}
+use mathlib.Core.Bool.{Bool, true, false, _&&_, false≢true}
 use Prim.Native.Nat.{ℕ}
 use native.Mathlib.Omega.{arith}
 use Rattle.real.specs.Reply.{Reply, refused, given, check}
@@ -24,3 +24,8 @@ check-refused false m n rest rest′ f e = let q : m ≡ n = cc in ap refused q
 
 pub refused-alike : {A B : Type 0} (b : Bool) (m n : ℕ) (rest : Reply A) (rest′ : Reply B) → (rest ≡ refused m → rest′ ≡ refused m) → check b n rest ≡ refused m → check b n rest′ ≡ refused m
 refused-alike b m n rest rest′ f e = sym (check-refused b m n rest rest′ (λ h. sym (f (sym h))) (sym e))
+
+-- the two parts of a test
+pub and-both : (a b : Bool) → (a && b) ≡ true → (a ≡ true) × (b ≡ true)
+and-both true b e = (refl, e)
+and-both false b e = absurd (false≢true e)

@@ -15,13 +15,12 @@ use Rattle.real.specs.Refusal.{badIndex, badOffset, noRoom, badSheet, badRecord
 use Rattle.real.specs.Reply.{Reply, given}
 use Rattle.lists.specs.Plain.{tab}
 use Rattle.view.specs.declared.view_data.PlineViewData.{PlineViewData}
-use Rattle.view.proofs.All.{and-both}
 use Rattle.lists.proofs.Tab.{length-tab, getD-tab}
 use Rattle.record.specs.Bytes.{le16, le32, le64, floatAt, bytes4, bytes8, floatBytes}
 use Rattle.record.specs.Layout.{startAt, offsetAt, recordSize, wordLimit}
 use Rattle.record.specs.Record.{recordOf, fieldsOk, recordFrom, vertexBytes, pointBytes, placeBytes, directionOf, endBytes, recordBytes, recordTo, bufferBy, recordBuffer}
 use Rattle.record.specs.RoundTrip.{Taken, Fits, Plain}
-use Rattle.real.proofs.Replies.{check-given, same-given}
+use Rattle.real.proofs.Replies.{check-given, same-given, and-both}
 
 -- ---- written and read
 

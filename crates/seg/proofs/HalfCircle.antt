@@ -1,7 +1,7 @@
 -- A split never leaves the half circle: of a segment, a point and a tolerance in range, both vertices of the answer are in range.
 use mathlib.Core.Path.{_≡_, refl, sym, subst}
 use mathlib.Core.Logic.{_⊎_, inl, inr}
-use mathlib.Core.Bool.{Bool, true, false, cond, _&&_, false≢true}
+use mathlib.Core.Bool.{Bool, true, false, cond, _&&_}
 use Prim.Native.Nat.{ℕ, _+_, _^_, _≤_}
 use native.Mathlib.Nat.{le-trans}
 use lib.Dec.{T, leb, lit≤}
@@ -12,6 +12,7 @@ use lib.Ieee.Fits.{two as two-digits}
 use lib.Ieee.Back.{round-whole}
 use Rattle.real.specs.Root.{absOf, rootOf}
 use Rattle.real.proofs.Bounds.{Within, Upto, upto, Level, level, From, from, Alike, weaker, bare, capped, ordered, not-over, past, signed, signed-alike, Whole, whole-power, add-upto, add-from, mul-upto, mul-from, square-is, mul-alike, div-upto, div-within, sub-within, sub-alike, sub-swap, sub-upto, root-upto}
+use Rattle.real.proofs.Replies.{and-both}
 use Rattle.plane.specs.Grade.{Grade, Arith, arith, double}
 use Rattle.plane.specs.Vec.{vsubOf, lengthSqOf, nearOf, vnearOf}
 use Rattle.plane.specs.Vertex.{vertexAt, posOf, lineOf}
@@ -63,10 +64,6 @@ three f = round-whole f false 3 (le-trans (lit≤ tt) (pow-mono (two-digits f)))
 
 -- ---- tests
 
-and-true : (a b : Bool) → a && b ≡ true → (a ≡ true) × (b ≡ true)
-and-true true b h = (refl, h)
-and-true false b h = absurd (false≢true h)
-
 and-false : (a b : Bool) → a && b ≡ false → (a ≡ false) ⊎ (b ≡ false)
 and-false true b h = inr h
 and-false false b h = inl refl
@@ -74,6 +71,11 @@ and-false false b h = inl refl
 either : {A : Type 0} (P : A → Type 0) (t : Bool) {x y : A} → P x → (t ≡ false → P y) → P (cond t x y)
 either P true h k = h
 either P false h k = k refl
+
+-- a vertex in range has its bulge in range
+pub bulge-in : (g : Grade) (v : PlineVertex) → vertexOk g v ≡ true → bulgeOk g (v .bulge) ≡ true
+unfolding vertexOk
+bulge-in g v h = and-both (coordOk g (v .y)) _ (and-both (coordOk g (v .x)) _ h .1) .1
 
 module _ (g : Grade) (sound : Sound g) where
   open Arith (arith g) using (_⊕_, _⊖_, _⊗_, _⊘_)
@@ -117,7 +119,7 @@ module _ (g : Grade) (sound : Sound g) where
       mul-upto format (whole format 2 tt) r r
 
   sine-most : {a : ℕ} (x : Float) → Upto a x → Upto 1 (halfSine g x)
-  sine-most x u = either (Upto 1) (lt one x) (sound .one) (λ h. root-upto format 1 (whole format 0 tt) (lit≤ tt) (not-over (sound .one) u h))
+  sine-most x u = either (Upto 1) _ (sound .one) (λ h. root-upto format 1 (whole format 0 tt) (lit≤ tt) (not-over (sound .one) u h))
 
   -- the magnitude that `partBulge` gives its sign
   part-most : (t : Bool) (chord side ratio : Float) → From 54 chord → Upto (2 ^ 43) side → Upto 4 ratio → (q : Float) × (Upto 1 q) × (partBulge g t side chord ratio ≡ signedOf t q)
@@ -149,17 +151,17 @@ module _ (g : Grade) (sound : Sound g) where
   vertex-parts : (v : PlineVertex) → vertexOk g v ≡ true → (pointOk g (posOf v) ≡ true) × (Within 1 (v .bulge))
   unfolding pointOk vertexOk
   vertex-parts v h =
-      let a = and-true (coordOk g (v .x)) (coordOk g (v .y) && bulgeOk g (v .bulge)) h in
-      let b = and-true (coordOk g (v .y)) (bulgeOk g (v .bulge)) (a .1) in
+      let a = and-both (coordOk g (v .x)) (coordOk g (v .y) && bulgeOk g (v .bulge)) h in
+      let b = and-both (coordOk g (v .y)) (bulgeOk g (v .bulge)) (a .1) in
       (simp (a .0, b .0), bulge-most (v .bulge) (b .1))
 
   placed : (p : Vector2) (b : Float) → pointOk g p ≡ true → Within 1 b → vertexOk g (vertexAt (p .x) (p .y) b) ≡ true
   unfolding pointOk vertexOk
-  placed p b h u = let a = and-true (coordOk g (p .x)) (coordOk g (p .y)) h in simp (a .0, a .1, bulge-ok b u)
+  placed p b h u = let a = and-both (coordOk g (p .x)) (coordOk g (p .y)) h in simp (a .0, a .1, bulge-ok b u)
 
   point-parts : (p : Vector2) → pointOk g p ≡ true → (Within (2 ^ 20) (p .x)) × (Within (2 ^ 20) (p .y))
   unfolding pointOk
-  point-parts p h = let a = and-true (coordOk g (p .x)) (coordOk g (p .y)) h in (coord (p .x) (a .0), coord (p .y) (a .1))
+  point-parts p h = let a = and-both (coordOk g (p .x)) (coordOk g (p .y)) h in (coord (p .x) (a .0), coord (p .y) (a .1))
 
   module _ (p q : Vector2) (h : pointOk g p ≡ true) (k : pointOk g q ≡ true) where
     side : (Within (2 ^ 21) (p .x ⊖ q .x)) × (Within (2 ^ 21) (p .y ⊖ q .y))
@@ -184,7 +186,7 @@ module _ (g : Grade) (sound : Sound g) where
         ])
       where
         least : T (le (g .leastTol) eps)
-        least = subst T (sym (and-true (le (g .leastTol) eps) (le eps (g .mostTol)) t .0)) tt
+        least = subst T (sym (and-both (le (g .leastTol) eps) (le eps (g .mostTol)) t .0)) tt
 
         far : {x y : Float} → Within (2 ^ 20) x → Within (2 ^ 20) y → nearOf g y x eps ≡ false → From 27 (absOf (x ⊖ y))
         far u v r = rw (sub-swap format u v) (past eps (bare (sub-within format (whole format 21 tt) v u)) (sound .tol-least) least r)
@@ -241,7 +243,7 @@ module _ (g : Grade) (sound : Sound g) where
         b = v1 .bulge
 
         ends : (vertexOk g v1 ≡ true) × (vertexOk g v2 ≡ true)
-        ends = and-true (vertexOk g v1) (vertexOk g v2) seg
+        ends = and-both (vertexOk g v1) (vertexOk g v2) seg
 
         first : pointOk g start ≡ true
         first = vertex-parts v1 (ends .0) .0
@@ -254,15 +256,3 @@ module _ (g : Grade) (sound : Sound g) where
 
         flat : Within 1 zero
         flat = weaker (lit≤ tt) (signed false (sound .zero))
-
-    -- so each part is a segment in range, and may be split again
-    pub parts-in-range : let r = splitOf g limit v1 v2 p eps in (segOk g (r .«updated_start») (r .«split_vertex») ≡ true) × (segOk g (r .«split_vertex») v2 ≡ true)
-    unfolding segOk
-    parts-in-range =
-        let h = stays-in-range in
-        let e = and-true (vertexOk g v1) (vertexOk g v2) seg in
-        (simp (h .0, h .1), simp (h .1, e .1))
-
--- at f64
-pub split-in-range : (limit : Float) (v1 v2 : PlineVertex) (p : Vector2) (eps : Float) → segOk double v1 v2 ≡ true → pointOk double p ≡ true → tolOk double eps ≡ true → InRange double (splitOf double limit v1 v2 p eps)
-split-in-range = stays-in-range double double-sound

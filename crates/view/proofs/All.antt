@@ -1,4 +1,4 @@
--- A test of every number below a bound, as a loop that goes up works it out, and the two parts of a conjunction.
+-- A test of every number below a bound, as a loop that goes up works it out.
 use mathlib.Core.Path.{_≡_, refl, ap, _∙_}
 use mathlib.Core.Bool.{Bool, true, false, _&&_}
 use Prim.Native.Nat.{ℕ, zero, suc, _+_, _<_}
@@ -6,14 +6,8 @@ use native.Mathlib.Nat.{not-suc-le-zero}
 use native.Mathlib.Numerals.{add-one}
 use native.Mathlib.Decide.{decLt}
 use native.Mathlib.Omega.{arith}
+use Rattle.real.proofs.Replies.{and-both}
 use Rattle.view.specs.Outline.{all}
-
-pub and-both : (a b : Bool) → (a && b) ≡ true → (a ≡ true) × (b ≡ true)
-and-both true b e = (refl, e)
-and-both false b e = (e, clash e)
-  where
-    clash : false ≡ true → b ≡ true
-    clash p = cc
 
 pub all-more : (f : ℕ → Bool) (k : ℕ) → all f k ≡ true → f k ≡ true → all f (k + 1) ≡ true
 unfolding all

@@ -8,8 +8,8 @@ use lib.Dec.{ltb, leb, eqb}
 use lib.Ieee.{Float}
 use borrow.Author.Tests.{ltb-true, leb-true, lt-ltb, le-leb}
 use Rattle.real.specs.Refusal.{badNumber, badOutline, badIndex, badOffset, unevenBulges}
-use Rattle.real.specs.Reply.{Reply, refused, given, check}
-use Rattle.real.proofs.Replies.{never-given, check-passed, check-refused}
+use Rattle.real.specs.Reply.{Reply, refused, given}
+use Rattle.real.proofs.Replies.{never-given, check-passed, check-refused, and-both}
 use Rattle.plane.specs.Grade.{Grade}
 use Rattle.plane.specs.Range.{mostVertices, wholeOutline, vertexOk}
 use Rattle.view.specs.Outline.{vertexOf, countOf, viewable, numbersOk}
@@ -19,7 +19,7 @@ use Rattle.view.specs.Check.{pass, checkReply, placeOf, checkOf, evenOf}
 use Rattle.view.specs.declared.check.Check.{Check}
 use Rattle.view.specs.declared.check.Check.the-variants as check-case
 use Rattle.view.specs.declared.view_data.PlineViewData.{PlineViewData}
-use Rattle.view.proofs.All.{and-both, all-each}
+use Rattle.view.proofs.All.{all-each}
 
 no-refusal : {A : Type 0} (m : ℕ) (rest : Reply A) → refused m ≡ pass → refused m ≡ rest
 no-refusal m rest e = never-given e

@@ -10,6 +10,7 @@ use lib.Ieee.{Float}
 use borrow.Author.Tests.{lt-ltb, le-ltb, ltb-true, ltb-false, le-leb, leb-false, lt-leb, not-false}
 use Rattle.real.specs.Refusal.{badNumber, badOutline, badIndex}
 use Rattle.real.specs.Reply.{Reply, given, check}
+use Rattle.real.proofs.Replies.{and-both}
 use Rattle.plane.specs.Grade.{Grade}
 use Rattle.plane.specs.Vec.{vnearOf}
 use Rattle.plane.specs.Vertex.{posOf}
@@ -22,7 +23,6 @@ use Rattle.view.specs.Validation.{Verdict, cut, hold, noSegments, offset
 use Rattle.view.specs.Answers.{listOf}
 use Rattle.view.specs.Cut.{Cut}
 use Rattle.view.specs.declared.view_data.PlineViewData.{PlineViewData}
-use Rattle.view.proofs.All.{and-both}
 use Rattle.view.proofs.Checks.{Checked, checked-rest, few-of-whole}
 
 -- what it is not to go across the gap

@@ -12,6 +12,7 @@ use lib.Ieee.Bits.{ofBits-toBits}
 use borrow.Author.Tests.{eq-eqb, ne-eqb, lt-ltb, le-leb, ltb-true}
 use Rattle.real.specs.Refusal.{badTrim}
 use Rattle.real.specs.Reply.{given, check}
+use Rattle.real.proofs.Replies.{and-both}
 use Rattle.plane.specs.Grade.{Grade}
 use Rattle.plane.specs.Range.{coordOk, bulgeOk, pointOk, vertexOk}
 use Rattle.plane.specs.declared.pline_vertex.PlineVertex.{PlineVertex}
@@ -23,7 +24,6 @@ use Rattle.view.specs.Answers.{listOf, listBuffer, bufferAfter, written,
 use Rattle.view.specs.Rows.{after, step, row}
 use Rattle.view.specs.Demand3.{Unrefused, SameBits, Even, Lists, Kept, Demand3}
 use Rattle.view.specs.declared.view_data.PlineViewData.{PlineViewData}
-use Rattle.view.proofs.All.{and-both}
 use Rattle.view.proofs.Checks.{Checked, checked, checked-rest, Evened, even-rest, vertex-in}
 use Rattle.lists.proofs.Lists.{plain-steps}
 use Rattle.lists.proofs.Good.{InRange, Good, turn-good, trim-good}

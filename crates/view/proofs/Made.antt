@@ -11,7 +11,7 @@ use borrow.Author.Tests.{ltb-true, leb-true, eq-eqb}
 use Rattle.real.specs.Refusal.{badNumber, badTolerance, badOutline, badIndex, badOffset, notClosed}
 use Rattle.real.specs.Reply.{given}
 use Rattle.real.specs.Root.{absOf}
-use Rattle.real.proofs.Replies.{same-given, check-passed}
+use Rattle.real.proofs.Replies.{same-given, check-passed, and-both}
 use Rattle.plane.specs.Grade.{Grade, double}
 use Rattle.plane.specs.Vec.{vnearOf}
 use Rattle.plane.specs.Vertex.{vertexAt, posOf}
@@ -19,7 +19,7 @@ use Rattle.plane.specs.Range.{wholeOutline, tolOk, coordOk, bulgeOk, pointOk, v
 use Rattle.plane.specs.declared.vector2.Vector2.{Vector2}
 use Rattle.plane.specs.declared.pline_vertex.PlineVertex.{PlineVertex}
 use Rattle.seg.specs.Cases.{half, minusHalf, vec}
-use Rattle.seg.proofs.HalfCircle.{Sound, double-sound, stays-in-range, InRange}
+use Rattle.seg.proofs.HalfCircle.{Sound, double-sound, bulge-in, stays-in-range, InRange}
 use Rattle.lists.specs.Plain.{tab, turn, turnAt, turnList, stepList, rowList}
 use Rattle.lists.specs.View.{forward, viewList, vertexAt as positionAt}
 use Rattle.view.specs.Outline.{vertexOf, countOf, viewable, all, numbersOk}
@@ -31,15 +31,9 @@ use Rattle.view.specs.Cases.{vert, Q, arc}
 use Rattle.view.specs.Create.{nextOf, vertexBefore, ending, forwardData, endOnTop, endOnSegment, endingOf, endedAt, createOf, movedOn, roundEnding, roundFrom, newStartOf}
 use Rattle.view.specs.declared.view_data.PlineViewData.{PlineViewData}
 use Rattle.view.specs.declared.ending.Ending.{Ending}
-use Rattle.view.proofs.All.{and-both}
 use Rattle.view.proofs.Checks.{viewable-in, vertex-in}
 use Rattle.view.proofs.Demand3.{Fine, fine-demand3}
 open Grade double using (zero, four)
-
--- a vertex in range has its bulge in range
-bulge-in : (g : Grade) (v : PlineVertex) → vertexOk g v ≡ true → bulgeOk g (v .bulge) ≡ true
-unfolding vertexOk
-bulge-in g v e = and-both (coordOk g (v .y)) _ (and-both (coordOk g (v .x)) _ e .1) .1
 
 -- either way of a test
 either : {A : Type 0} (P : A → Type 0) (t : Bool) {x y : A} → (t ≡ true → P x) → (t ≡ false → P y) → P (cond t x y)

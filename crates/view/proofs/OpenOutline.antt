@@ -10,7 +10,7 @@ use lib.Ieee.{Float, neg}
 use borrow.Author.Tests.{ltb-true}
 use Rattle.real.specs.Refusal.{badTrim}
 use Rattle.real.specs.Reply.{Reply, refused, given}
-use Rattle.real.proofs.Replies.{same-given, check-passed}
+use Rattle.real.proofs.Replies.{same-given, check-passed, and-both}
 use Rattle.plane.specs.Grade.{Grade}
 use Rattle.plane.specs.Vertex.{posOf}
 use Rattle.plane.specs.declared.pline_vertex.PlineVertex.{PlineVertex}
@@ -27,7 +27,6 @@ use Rattle.view.specs.Rows.{after, step, row}
 use Rattle.view.specs.Cut.{Cut}
 use Rattle.view.specs.OpenOutline.{marked, BeforeLast, UsesOpen, OpenOutline}
 use Rattle.view.specs.declared.view_data.PlineViewData.{PlineViewData}
-use Rattle.view.proofs.All.{and-both}
 use Rattle.view.proofs.Checks.{evened, even-rest}
 use Rattle.view.proofs.Cut.{cut-says, before-gap, not-across}
 

@@ -1,7 +1,8 @@
 -- The values are written, or the refusal is handed on.
 use borrow.Author.Needs.{needs}
 use Rattle.real.specs.SqrtReply.{sqrtReply}
-use Rattle.lent.specs.Lent.{one, andThen}
+use Rattle.real.specs.Reply.{andThen}
+use Rattle.lent.specs.Lent.{one}
 use Rattle.lent.proofs.Laws.{gives, hands-on}
 use Rattle.lent.proofs.give.give_root.Statement.{statement}
 use Rattle.lent.proofs.give.give_root.Tie as tie

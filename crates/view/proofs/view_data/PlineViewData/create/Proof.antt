@@ -8,12 +8,12 @@ use denote.Ref.{now}
 use Rattle.real.specs.Refusal.{badNumber, badTolerance, badOutline, badOffset}
 use Rattle.real.specs.Reply.{Reply, check}
 use Rattle.real.proofs.Pick.{picks, good, bad, passed}
+use Rattle.real.proofs.Replies.{and-both}
 use Rattle.plane.specs.Grade.{double}
 use Rattle.plane.specs.Range.{tolOk, pointOk, vertexOk}
 use Rattle.view.specs.Outline.{countOf, viewable, numbersOk}
 use Rattle.view.specs.Create.{createOf}
 use Rattle.view.specs.declared.view_data.PlineViewData.{PlineViewData}
-use Rattle.view.proofs.All.{and-both}
 use Rattle.view.proofs.Checks.{viewable-in}
 use Rattle.view.proofs.view_data.PlineViewData.create.Statement.{statement}
 use Rattle.view.proofs.view_data.PlineViewData.create.Tie as tie

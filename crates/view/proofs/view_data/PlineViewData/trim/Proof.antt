@@ -7,9 +7,9 @@ use borrow.Author.Tests.{ltb-true}
 use denote.Ref.{now}
 use Rattle.real.specs.Reply.{given}
 use Rattle.real.proofs.Pick.{bad, good, passed}
+use Rattle.real.proofs.Replies.{and-both}
 use Rattle.plane.specs.Grade.{double}
 use Rattle.view.specs.Answers.{trimOf}
-use Rattle.view.proofs.All.{and-both}
 use Rattle.view.proofs.Checks.{Evened, told-refused, told-passed, even-refused, evened, even-rest}
 use Rattle.view.proofs.view_data.PlineViewData.trim.Statement.{statement}
 use Rattle.view.proofs.view_data.PlineViewData.trim.Tie as tie
