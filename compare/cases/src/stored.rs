@@ -283,18 +283,20 @@ pub fn gap() -> Vec<Case> {
     cases
 }
 
-/// An arc from (0,0) to (1,0) that a point off it turns, (-1,1), and the same bowed to the other side; then the second
-/// result, which is turned, and the first, a half circle, each split again at that point: its start and its end.
+/// An arc from (0,0) to (1,0) that a point off it turns, (-1,1), and the same bowed to the other side; then the first
+/// one's two results, each split again at that point: a half circle at its end, and the turned arc at its start. Last an
+/// arc at a point that is as far from its start as its end is.
 pub fn turned() -> Vec<Case> {
-    let split = |x, y, bulge, end_x, end_y| {
-        let case = Case::new(Call::SegSplitAtPoint).numbers(&[x, y, bulge, end_x, end_y, 0.0]);
-        case.number(-1.0).number(1.0).number(1e-5).room(6)
+    let split = |seg: [f64; 6], x: f64, y: f64| {
+        let case = Case::new(Call::SegSplitAtPoint).numbers(&seg);
+        case.number(x).number(y).number(1e-5).room(6)
     };
     vec![
-        split(0.0, 0.0, 0.5, 1.0, 0.0),
-        split(0.0, 0.0, -0.5, 1.0, 0.0),
-        split(-1.0, 1.0, -1.0 / 3.0, 1.0, 0.0),
-        split(0.0, 0.0, 1.0, -1.0, 1.0),
+        split([0.0, 0.0, 0.5, 1.0, 0.0, 0.0], -1.0, 1.0),
+        split([0.0, 0.0, -0.5, 1.0, 0.0, 0.0], -1.0, 1.0),
+        split([0.0, 0.0, 1.0, -1.0, 1.0, -1.0 / 3.0], -1.0, 1.0),
+        split([-1.0, 1.0, -1.0 / 3.0, 1.0, 0.0, 0.0], -1.0, 1.0),
+        split([0.0, 0.0, 0.15625, 1.0, 0.0, 0.0], 0.0, 1.0),
     ]
 }
 

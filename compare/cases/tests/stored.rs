@@ -150,26 +150,31 @@ fn the_list_stops_at_the_gap() {
     assert_eq!(next(1), [] as [bool; 0]);
 }
 
-/// The arc that a point off it turns, by hand. Both chords are longer than the whole one, by more than the sine allows,
-/// so the nearer part is a half circle, and the other has bulge (1/2 - 1) / (1 + 1/2). A split at an arc's start leaves
-/// nothing before it, one at its end nothing behind it.
+/// The arc that a point off it turns, by hand. Both of the point's chords are longer than the arc's diameter, so the nearer
+/// part is a half circle, and the other has bulge (1/2 - 1) / (1 + 1/2). A split at an arc's end leaves nothing behind it,
+/// one at its start nothing before it. Of the last the first part has the whole's chord, so nothing but rounding is left
+/// for the second, and it turns it.
 #[test]
 fn the_list_turns_an_arc() {
     const THIRD: f64 = 1.0 / 3.0;
     let cases = turned();
     assert_eq!(all()[all().len() - cases.len()..], cases);
-    let expected = [
-        [0.0, 0.0, 1.0, -1.0, 1.0, -THIRD],
-        [0.0, 0.0, -1.0, -1.0, 1.0, THIRD],
-        [-1.0, 1.0, 0.0, -1.0, 1.0, -THIRD],
-        [0.0, 0.0, 1.0, -1.0, 1.0, 0.0],
-    ];
-    for (case, expected) in cases.iter().zip(expected) {
+    let mut results = cases.iter().map(|case| {
         let outcome = case.run(&Oracle);
         assert_eq!(outcome.refusal, 0, "{case}");
-        let words = outcome.written(case.call);
-        assert_eq!(words, expected.map(f64::to_bits), "{case}");
+        outcome.written(case.call)
+    });
+    for expected in [
+        [0.0, 0.0, 1.0, -1.0, 1.0, -THIRD],
+        [0.0, 0.0, -1.0, -1.0, 1.0, THIRD],
+        [0.0, 0.0, 1.0, -1.0, 1.0, 0.0],
+        [-1.0, 1.0, 0.0, -1.0, 1.0, -THIRD],
+    ] {
+        assert_eq!(results.next().unwrap(), expected.map(f64::to_bits));
     }
+    let bulge = f64::from_bits(results.next().unwrap()[5]);
+    assert!(-1e-16 < bulge && bulge < 0.0, "{bulge}");
+    assert_eq!(results.next(), None);
 }
 
 #[test]
