@@ -23,6 +23,7 @@ abbrev pub nextNumbers : Part → List Float → List Float → List Float
 nextNumbers first s out = out
 nextNumbers second s out = drop 3 out ++ drop 3 s
 
+-- the six numbers at the end of a row; where a call is refused nothing goes on
 unfoldable pub numbersRow : List SplitStep → List Float → Reply (List Float)
 numbersRow [] s = given s
 numbersRow (c ∷ cs) s = andThen (numbersSplit c s) (λ r. numbersRow cs (nextNumbers (c .part) s (splitNumbers r)))

@@ -1,9 +1,9 @@
--- What the answer of a chain of checks says: each test before it holds, with both its parts, and a refusal does not depend on what comes after it.
+-- What the answer of a chain of checks says: each test before it holds, with both its parts, and a refusal does not depend on what comes after it. What the answer of one call and then another says.
 use mathlib.Core.Path.{_≡_, refl, sym, ap}
 use mathlib.Core.Bool.{Bool, true, false, _&&_, false≢true}
 use Prim.Native.Nat.{ℕ}
 use native.Mathlib.Omega.{arith}
-use Rattle.real.specs.Reply.{Reply, refused, given, check}
+use Rattle.real.specs.Reply.{Reply, refused, given, check, andThen}
 
 pub same-given : {A : Type 0} {x y : A} → given x ≡ given y → x ≡ y
 same-given e = cc
@@ -29,3 +29,15 @@ refused-alike b m n rest rest′ f e = sym (check-refused b m n rest rest′ (λ
 pub and-both : (a b : Bool) → (a && b) ≡ true → (a ≡ true) × (b ≡ true)
 and-both true b e = (refl, e)
 and-both false b e = absurd (false≢true e)
+
+-- what goes on past a call has that call's answer
+pub went-on : {A B : Type 0} {b : B} (x : Reply A) (rest : A → Reply B) → andThen x rest ≡ given b → (a : A) × (x ≡ given a) × (rest a ≡ given b)
+unfolding andThen
+went-on (given a) rest e = (a, refl, e)
+went-on (refused n) rest e = never-given e
+
+-- two rests, one after the other, are one
+pub joined : {A B C : Type 0} (x : Reply A) (f : A → Reply B) (h : B → Reply C) (k : A → Reply C) → ((a : A) → k a ≡ andThen (f a) h) → andThen x k ≡ andThen (andThen x f) h
+unfolding andThen
+joined (given a) f h k e = e a
+joined (refused n) f h k e = refl

@@ -5,8 +5,8 @@ use mathlib.Core.List.{List, [], _∷_}
 use lib.Dec.{lit≤}
 use lib.Ieee.{Float, binary32, ofBits}
 use Rattle.real.specs.Refusal.{badNumber, badTolerance}
-use Rattle.real.specs.Reply.{Reply, refused, given, andThen}
-use Rattle.real.proofs.Replies.{same-given, never-given, check-given, and-both}
+use Rattle.real.specs.Reply.{given, andThen}
+use Rattle.real.proofs.Replies.{same-given, check-given, and-both, went-on}
 use Rattle.real.proofs.Bounds.{upto, from}
 use Rattle.plane.specs.Grade.{Grade, double}
 use Rattle.plane.specs.Range.{tolOk, pointOk, vertexOk, segOk}
@@ -15,12 +15,6 @@ use Rattle.seg.specs.SplitRow.{Segment, Part, first, second, SplitStep, 
 use Rattle.seg.specs.declared.split.SplitResult.{SplitResult}
 use Rattle.seg.proofs.Laws.{split-given}
 use Rattle.seg.proofs.HalfCircle.{Sound, double-sound, InRange, bulge-in, stays-in-range}
-
--- a row that goes on past a step has that step's answer
-past : {A B : Type 0} {b : B} (x : Reply A) (rest : A → Reply B) → andThen x rest ≡ given b → (a : A) × (x ≡ given a) × (rest a ≡ given b)
-unfolding andThen
-past (given a) rest e = (a, refl, e)
-past (refused n) rest e = never-given e
 
 module _ (g : Grade) (sound : Sound g) (limit : Float) where
   abbrev Ok : Segment → Type 0
@@ -44,7 +38,7 @@ module _ (g : Grade) (sound : Sound g) (limit : Float) where
   unfolding splitRow
   reached [] s t h e = subst Ok (same-given e) h
   reached (c ∷ cs) s t h e =
-      let p = past (splitBy g limit c s) _ e in
+      let p = went-on (splitBy g limit c s) _ e in
       reached cs (partOf (c .part) (s .end) (p .0)) t (part-ok (c .part) s (p .0) h (results-ok c s (p .0) h (p .1))) (p .2)
 
   splits-on : (t : Segment) → Ok t → SplitsOn g limit t
