@@ -1,14 +1,13 @@
 -- Demand 3 through the C face: what a step answers fits 64 bytes, which are read back as that very record, so a row over bytes is the row over records.
 use mathlib.Core.Path.{_≡_, refl, sym, ap, subst, _∙_}
-use mathlib.Core.List.{List, [], _∷_, _++_, append-nil}
+use mathlib.Core.List.{List, [], _∷_, _++_}
 use Prim.Native.Nat.{ℕ, _*_, _≤_}
 use native.Mathlib.Omega.{arith}
-use lib.ListN.{length, take, drop, drop-of-length-le}
+use lib.ListN.{length, take, drop}
 use lib.Seq.{take-at}
 use lib.Dec.{T, leb}
 use lib.Ieee.{Float, binary64, fits}
 use lib.Ieee.Bits.{ofBits-fits}
-use borrow.Author.Tests.{le-leb}
 use Rattle.real.specs.Refusal.{noRoom}
 use Rattle.real.specs.Reply.{Reply, refused, given, andThen}
 use Rattle.real.proofs.Replies.{same-given, check-passed}
@@ -30,20 +29,17 @@ use Rattle.view.proofs.Shape.{list-count}
 use Rattle.record.specs.Bytes.{floatAt}
 use Rattle.record.specs.Record.{recordFrom, recordBytes}
 use Rattle.record.proofs.Records.{record-length, read, from-small}
-use Rattle.lent.specs.Lent.{heldBy, lent, both, Answered}
+use Rattle.lent.specs.Lent.{heldBy, both, Answered}
 use Rattle.lent.specs.Values.{listReply}
+use Rattle.lent.proofs.Laws.{fills}
 use Rattle.bisquefern.specs.Rows.{bytesAfter, Doubles, stepReply, bytesRow, BytesDemand3}
 use Rattle.bisquefern.proofs.Placed.{turned, trimmed}
 
 -- a call on bytes b into a buffer that holds b leaves there the bytes in hand after it, whether it answers or refuses
 pub call-leaves : {b after : List ℕ} {n : ℕ} (r : Reply PlineViewData) → length b ≡ 64 → Answered recordBytes r b n after → after ≡ bytesAfter b r
-unfolding andThen heldBy lent
+unfolding andThen heldBy
 call-leaves (refused m) h w = w .holds
-call-leaves {b} (given d) h w =
-    let size = record-length d in
-    let fits : length (recordBytes d) ≤ length b = omega arith in
-    let all : length b ≤ length (recordBytes d) = omega arith in
-    (simp (le-leb _ _ fits) at (w .holds)) ∙ ap (λ (l : List ℕ). recordBytes d ++ l) (drop-of-length-le b all) ∙ append-nil (recordBytes d)
+call-leaves (given d) h w = fills recordBytes (record-length d ∙ sym h) w
 
 abbrev Double : Float → Type 0
 Double x = T (fits binary64 x)

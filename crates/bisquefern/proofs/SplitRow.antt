@@ -1,5 +1,5 @@
 -- Rows of splits through the C face: six numbers are read as the segment that they are, so a row over numbers is the row over segments.
-use mathlib.Core.Path.{_≡_, refl}
+use mathlib.Core.Path.{_≡_, refl, sym}
 use mathlib.Core.List.{List, [], _∷_}
 use Rattle.real.specs.Reply.{given, andThen}
 use Rattle.real.proofs.Replies.{joined}
@@ -8,6 +8,7 @@ use Rattle.seg.specs.SplitRow.{Segment, Part, first, second, SplitStep, partOf,
 use Rattle.seg.specs.declared.split.SplitResult.{SplitResult}
 use Rattle.lent.specs.Segment.{segmentFrom}
 use Rattle.lent.specs.Values.{splitNumbers}
+use Rattle.lent.proofs.Laws.{fills}
 use Rattle.bisquefern.specs.SplitRow.{segmentNumbers, nextNumbers, numbersRow, NumbersRow}
 
 -- what is passed on is the part's numbers
@@ -21,4 +22,4 @@ rows [] s = refl
 rows (c ∷ cs) s = joined (splitBy double (double .line) c s) _ _ _ (λ r. rw (next-is (c .part) s r) (rows cs (partOf (c .part) (s .end) r)))
 
 pub numbers-row : (s : Segment) → NumbersRow s
-numbers-row s = record { rows = λ cs. rows cs s }
+numbers-row s = record { rows = λ cs. rows cs s; written = λ r before after code h w. fills splitNumbers (sym h) w }

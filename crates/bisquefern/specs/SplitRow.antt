@@ -1,13 +1,15 @@
 -- Rows of splits through the C face: a segment is six numbers, and what one call wrote is what the next one takes.
 use mathlib.Core.Path.{_≡_}
 use mathlib.Core.List.{List, [], _∷_, _++_}
-use lib.ListN.{drop}
+use Prim.Native.Nat.{ℕ}
+use lib.ListN.{length, drop}
 use lib.Ieee.{Float}
 use Rattle.real.specs.Reply.{Reply, given, andThen}
 use Rattle.plane.specs.Grade.{double}
 use Rattle.seg.specs.Split.{segSplit}
 use Rattle.seg.specs.SplitRow.{Segment, Part, first, second, SplitStep, splitRow}
 use Rattle.seg.specs.declared.split.SplitResult.{SplitResult}
+use Rattle.lent.specs.Lent.{Answered}
 use Rattle.lent.specs.Values.{vertexNumbers, splitNumbers}
 use Rattle.bisquefern.specs.Calls.{ofSegment}
 
@@ -28,6 +30,8 @@ unfoldable pub numbersRow : List SplitStep → List Float → Reply (List Float)
 numbersRow [] s = given s
 numbersRow (c ∷ cs) s = andThen (numbersSplit c s) (λ r. numbersRow cs (nextNumbers (c .part) s (splitNumbers r)))
 
--- a row over numbers is the row over segments, of which `HalfCircle` says the rest
 pub record NumbersRow (s : Segment) : Type 0 where
+  -- a row over numbers is the row over segments, of which `HalfCircle` says the rest
   pub rows : (cs : List SplitStep) → numbersRow cs (segmentNumbers s) ≡ andThen (splitRow double (double .line) cs s) (λ t. given (segmentNumbers t))
+  -- and a buffer of six numbers holds, after a call that answers, just those that `nextNumbers` takes
+  pub written : (r : SplitResult) (before after : List Float) (code : ℕ) → length before ≡ 6 → Answered splitNumbers (given r) before code after → after ≡ splitNumbers r

@@ -1,10 +1,10 @@
 -- What a call leaves, by how it came to its end.
 use mathlib.Core.Path.{_≡_, refl, sym, ap, ap₂, subst, _∙_}
 use mathlib.Core.Bool.{Bool, true, false}
-use mathlib.Core.List.{List}
+use mathlib.Core.List.{List, _++_, append-nil}
 use native.Mathlib.Omega.{arith}
 use Prim.Native.Nat.{ℕ, _≤_, _<_}
-use lib.ListN.{length}
+use lib.ListN.{length, drop-of-length-le}
 use lib.Ieee.{Float}
 use borrow.Author.Tests.{le-leb, lt-leb}
 use Rattle.real.specs.Refusal.{noRoom}
@@ -39,6 +39,14 @@ module _ {A B : Type 0} (values : A → List B) {a : A} {before : List B} where
   pub stores : {after : List B} → length (values a) ≤ length before → after ≡ inFront (values a) before → Answered values (given a) before 0 after
   unfolding andThen codeOf heldBy lent
   stores h e = record { returned = simp (le-leb _ _ h); holds = simp (le-leb _ _ h) e }
+
+  -- a buffer just as long holds the values and nothing else
+  pub fills : {after : List B} {n : ℕ} → length (values a) ≡ length before → Answered values (given a) before n after → after ≡ values a
+  unfolding andThen heldBy lent
+  fills h w =
+      let fits : length (values a) ≤ length before = omega (arith, h) in
+      let all : length before ≤ length (values a) = omega (arith, h) in
+      (simp (le-leb _ _ fits) at (w .holds)) ∙ ap (λ (l : List B). values a ++ l) (drop-of-length-le before all) ∙ append-nil (values a)
 
 -- the same values, of another answer
 pub stored-as : {A A′ B : Type 0} (values : A → List B) (values′ : A′ → List B) {a : A} {a′ : A′} {before after : List B} {n : ℕ} → values a ≡ values′ a′
