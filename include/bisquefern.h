@@ -103,8 +103,7 @@ uint8_t bf_seg_closest_point(const double *seg, size_t seg_len, double x, double
 uint8_t bf_seg_distance_is_greater_than(const double *seg, size_t seg_len, double x, double y, double distance,
                                         double tolerance, uint8_t *out, size_t out_len);
 
-/* A box that is quick to find, and the true one: least x, least y, greatest x, greatest y. 3, 1, 8. */
-uint8_t bf_seg_fast_approx_bounding_box(const double *seg, size_t seg_len, double *out, size_t out_len);
+/* The box: least x, least y, greatest x, greatest y: 4 numbers. 3, 1, 8. */
 uint8_t bf_seg_bounding_box(const double *seg, size_t seg_len, double *out, size_t out_len);
 
 /* The midpoint: 2 numbers. 3, 1, 8. */

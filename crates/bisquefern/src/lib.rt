@@ -10,7 +10,6 @@ pub use segment::bf_seg_arc_radius_and_center;
 pub use segment::bf_seg_bounding_box;
 pub use segment::bf_seg_closest_point;
 pub use segment::bf_seg_distance_is_greater_than;
-pub use segment::bf_seg_fast_approx_bounding_box;
 pub use segment::bf_seg_midpoint;
 pub use segment::bf_seg_split_at_point;
 pub use segment::bf_seg_tangent_vector;

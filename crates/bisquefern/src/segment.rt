@@ -11,7 +11,6 @@ use seg::seg_arc_radius_and_center;
 use seg::seg_bounding_box;
 use seg::seg_closest_point;
 use seg::seg_distance_is_greater_than;
-use seg::seg_fast_approx_bounding_box;
 use seg::seg_midpoint;
 use seg::seg_split_at_point;
 use seg::seg_tangent_vector;
@@ -21,7 +20,7 @@ ghost use Rattle.seg.specs.Split.{segSplit};
 ghost use Rattle.seg.specs.Tangent.{segTangent};
 ghost use Rattle.seg.specs.Closest.{segClosest};
 ghost use Rattle.seg.specs.Distance.{segFar};
-ghost use Rattle.seg.specs.Bounds.{segBox, segFastBox};
+ghost use Rattle.seg.specs.Bounds.{segBox};
 ghost use Rattle.seg.specs.Middle.{segMid};
 ghost use Rattle.lent.specs.Lent.{Answered};
 ghost use Rattle.lent.specs.Values as values;
@@ -118,18 +117,6 @@ pub extern "C" fn bf_seg_distance_is_greater_than(
 }
 
 // Least x and y, greatest x and y. 3, 1, 8.
-#[no_mangle]
-pub extern "C" fn bf_seg_fast_approx_bounding_box(seg: &[f64], out: &mut [f64]) -> u8
-    ensures { λ r. ⌜ Answered values.boxNumbers (ofSegment (now (seg .entry)) (segFastBox double (double .line))) (now (out .entry)) r (now (out .exit)) ⌝ }
-{
-    let segment = segment_from_slice(seg);
-    match segment {
-        SegmentAnswer::Given(v1, v2) => give_box(seg_fast_approx_bounding_box(v1, v2), out),
-        SegmentAnswer::Refused(n) => n,
-    }
-}
-
-// The same of the true box. 3, 1, 8.
 #[no_mangle]
 pub extern "C" fn bf_seg_bounding_box(seg: &[f64], out: &mut [f64]) -> u8
     ensures { λ r. ⌜ Answered values.boxNumbers (ofSegment (now (seg .entry)) (segBox double (double .line))) (now (out .entry)) r (now (out .exit)) ⌝ }

@@ -20,11 +20,11 @@ use Rattle.record.specs.Record.{fieldsOk}
 use Rattle.job.specs.Outline.{numbersIn}
 use Rattle.job.specs.Extent.{boxTo}
 use Rattle.job.specs.Sheet.{recordsOf, sheetOf}
-use Rattle.job.specs.Lines.{refusedLine, outlineLine, floats, boundsLine, viewHead, viewLine}
+use Rattle.job.specs.Lines.{refusedLine, outlineLine, floats, boxWords, viewHead, viewLine}
 use Rattle.job.specs.Views.{markText, verdictText, viewText}
 use Rattle.job.specs.Parts.{boxLine, wholeText, sheetText}
 use Rattle.job.specs.Example.{exampleSheet, exampleText}
 
 pub example : sheetText exampleSheet ≡ exampleText
-unfolding ofBits toBits neg add sub mul div lt le eq absOf rootOf wholeOutline coordOk bulgeOk pointOk vertexOk radiusOf centerOf arcClosest closestOf startRadius endRadius arcBoxBy arcBox boxOf tab forward vertexAt viewList all numbersOk recordOk onSegmentOf onOutline bulgesMatch endVerdict placedVerdict countedVerdict validateOf acrossGap markOf le16 le32 le64 floatAt hex decimals decimal float row numbered headerUnder headerOk fieldsOk numbersIn boxTo recordsOf sheetOf refusedLine outlineLine floats boundsLine viewHead viewLine markText verdictText viewText boxLine wholeText sheetText
+unfolding ofBits toBits neg add sub mul div lt le eq absOf rootOf wholeOutline coordOk bulgeOk pointOk vertexOk radiusOf centerOf arcClosest closestOf startRadius endRadius arcBoxBy arcBox boxOf tab forward vertexAt viewList all numbersOk recordOk onSegmentOf onOutline bulgesMatch endVerdict placedVerdict countedVerdict validateOf acrossGap markOf le16 le32 le64 floatAt hex decimals decimal float row numbered headerUnder headerOk fieldsOk numbersIn boxTo recordsOf sheetOf refusedLine outlineLine floats boxWords viewHead viewLine markText verdictText viewText boxLine wholeText sheetText
 example = refl

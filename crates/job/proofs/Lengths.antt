@@ -13,7 +13,7 @@ use Rattle.text.specs.Digits.{decimal}
 use Rattle.text.proofs.Digits.{decimal-length, float-length}
 use Rattle.job.specs.Rows.{row, rowBytes, joined, rows}
 use Rattle.job.specs.Views.{partBytes}
-use Rattle.job.specs.Lines.{refusedLine, closedWord, outlineLine, floats, boundsLine, viewHead, markWord, viewLine}
+use Rattle.job.specs.Lines.{refusedLine, closedWord, outlineLine, floats, boxWords, noBoxWords, boxEnd, viewHead, markWord, viewLine}
 
 four : (n : ℕ) → n < 10000 → length (decimal n) ≤ 4
 four n h = decimal-length 3 n h (omega arith)
@@ -30,9 +30,16 @@ pub outline-length : (v w : ℕ) (b : Bool) → v < 10000 → w < 10000 → leng
 unfolding outlineLine
 outline-length v w b h k = simp length-append (omega (arith, four v h, four w k, closed-length b))
 
-pub bounds-length : (b : Bounds) → length (boundsLine b) ≡ 72
-unfolding boundsLine floats
-bounds-length b = simp (length-append, float-length)
+end-length : (retired : Bool) → length (boxEnd retired) ≤ 9
+end-length true = omega arith
+end-length false = omega arith
+
+pub box-length : (b : Bounds) (retired : Bool) → length (boxWords b ++ boxEnd retired) ≤ 80
+unfolding boxWords floats
+box-length b retired = simp (length-append, float-length) (omega (arith, end-length retired))
+
+pub no-box-length : (retired : Bool) → length (noBoxWords ++ boxEnd retired) ≤ 17
+no-box-length retired = simp length-append (omega (arith, end-length retired))
 
 pub head-length : (k : ℕ) → k < 10000 → length (viewHead k) ≤ 10
 unfolding viewHead

@@ -1,7 +1,7 @@
 -- Each part of a sheet's text, by its header at hand.
 use mathlib.Core.Path.{_≡_, sym, ap, subst}
 use mathlib.Core.Bool.{true, false}
-use mathlib.Core.List.{List, []}
+use mathlib.Core.List.{List, [], _++_}
 use Prim.Native.Nat.{ℕ, _+_, _-_, _≤_, _<_}
 use native.Mathlib.Omega.{arith}
 use lib.ListN.{length}
@@ -10,11 +10,11 @@ use borrow.Author.Tests.{lt-ltb, le-ltb}
 use Rattle.text.specs.Wrote.{Filled}
 use Rattle.text.proofs.Writing.{no-piece, filled}
 use Rattle.job.specs.declared.header.Header.{Header}
-use Rattle.job.specs.Header.{headerOf, headerOk, closed, fast, Headed}
+use Rattle.job.specs.Header.{headerOf, headerOk, closed, retired, Headed}
 use Rattle.job.specs.Outline.{vertexIn}
 use Rattle.job.specs.Extent.{boxTo, lastSegment}
 use Rattle.job.specs.Sheet.{views}
-use Rattle.job.specs.Lines.{noBoxLine, boundsLine}
+use Rattle.job.specs.Lines.{boxWords, noBoxWords, boxEnd}
 use Rattle.job.specs.Views.{partBytes, Part}
 use Rattle.job.specs.Parts.{boxLine, frontPart, viewPart, partText, viewBufferOf, partBuffer}
 
@@ -57,15 +57,15 @@ module _ (b : List ℕ) (s l : List Float) (k : ℕ) where
 -- ---- the box line
 
 module _ (b : List ℕ) (h : Header) (g : Headed b h) where
-  pub no-box : h .vertices < 2 → noBoxLine ≡ boxLine b
+  pub no-box : h .vertices < 2 → noBoxWords ++ boxEnd (retired h) ≡ boxLine b
   unfolding boxLine
   no-box p =
       let n : headerOf b .vertices ≡ h .vertices = ap (λ (k : Header). k .vertices) (sym (g .is)) in
-      simp (lt-ltb (headerOf b .vertices) 2 (omega arith))
+      simp (lt-ltb (headerOf b .vertices) 2 (omega arith)) (ap (λ (k : Header). noBoxWords ++ boxEnd (retired k)) (g .is))
 
-  pub some-box : 2 ≤ h .vertices → boundsLine (boxTo (fast h) (vertexIn b) (h .vertices) (lastSegment (closed h) (h .vertices))) ≡ boxLine b
+  pub some-box : 2 ≤ h .vertices → boxWords (boxTo (vertexIn b) (h .vertices) (lastSegment (closed h) (h .vertices))) ++ boxEnd (retired h) ≡ boxLine b
   unfolding boxLine
   some-box p =
       let n : headerOf b .vertices ≡ h .vertices = ap (λ (k : Header). k .vertices) (sym (g .is)) in
       simp (le-ltb (headerOf b .vertices) 2 (omega arith))
-      (ap (λ (k : Header). boundsLine (boxTo (fast k) (vertexIn b) (k .vertices) (lastSegment (closed k) (k .vertices)))) (g .is))
+      (ap (λ (k : Header). boxWords (boxTo (vertexIn b) (k .vertices) (lastSegment (closed k) (k .vertices))) ++ boxEnd (retired k)) (g .is))

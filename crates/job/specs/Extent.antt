@@ -6,13 +6,11 @@ use mathlib.Core.Bool.{Bool, true, cond}
 use mathlib.Core.List.{List}
 use lib.ListN.{length}
 use lib.Ieee.{Float, lt}
-use Rattle.real.specs.Reply.{Reply}
 use Rattle.plane.specs.Grade.{double}
 use Rattle.plane.specs.Range.{vertexOk}
 use Rattle.plane.specs.declared.pline_vertex.PlineVertex.{PlineVertex}
-use Rattle.seg.specs.Bounds as seg
+use Rattle.seg.specs.Bounds.{bounds, boxOf}
 use Rattle.seg.specs.declared.bounds.Bounds.{Bounds}
-use Rattle.seg.specs.declared.bounds.BoxAnswer.{BoxAnswer}
 use Rattle.lists.specs.View.{wrapped}
 use Rattle.view.specs.Outline.{all}
 use Rattle.job.specs.Outline.{vertexIn}
@@ -25,22 +23,16 @@ greater edge other = cond (lt edge other) other edge
 
 abbrev pub wider : Bounds → Bounds → Bounds
 wider a b =
-    seg.bounds (lesser (a .«min_x») (b .«min_x»)) (lesser (a .«min_y») (b .«min_y»)) (greater (a .«max_x») (b .«max_x»)) (greater (a .«max_y») (b .«max_y»))
+    bounds (lesser (a .«min_x») (b .«min_x»)) (lesser (a .«min_y») (b .«min_y»)) (greater (a .«max_x») (b .«max_x»)) (greater (a .«max_y») (b .«max_y»))
 
--- a segment's box, the true one or the fast one, as the segment call answers it and by itself
-abbrev pub boxReply : BoxAnswer → Reply Bounds
-boxReply = seg.boxReply
-
-abbrev pub boxAnswer : Bool → PlineVertex → PlineVertex → Reply Bounds
-boxAnswer fast v1 v2 = cond fast (seg.segFastBox double (double .line) v1 v2) (seg.segBox double (double .line) v1 v2)
-
-abbrev pub boxFor : Bool → PlineVertex → PlineVertex → Bounds
-boxFor fast v1 v2 = cond fast (seg.fastBox double (double .line) v1 v2) (seg.boxOf double (double .line) v1 v2)
+-- a segment's box, "the true box"
+abbrev pub segmentBox : PlineVertex → PlineVertex → Bounds
+segmentBox = boxOf double (double .line)
 
 -- of n vertices `src`: the box of the segment that starts at vertex k, and of the segments 0 to k in their order
-module _ (fast : Bool) (src : ℕ → PlineVertex) (n : ℕ) where
+module _ (src : ℕ → PlineVertex) (n : ℕ) where
   abbrev pub boxAt : ℕ → Bounds
-  boxAt k = boxFor fast (src k) (src (wrapped k 1 n))
+  boxAt k = segmentBox (src k) (src (wrapped k 1 n))
 
   unfoldable pub boxTo : ℕ → Bounds
   boxTo zero = boxAt zero

@@ -33,12 +33,13 @@ headerOf b =
       «view_offset» = le32 b 12;
     }
 
--- "flags (2; bit 0 closed, bit 1: the box line uses the fast box)"
+-- "flags (2; bit 0 closed, [...])"
 abbrev pub closed : Header → Bool
 closed h = eqb (h .flags % 2) 1
 
-abbrev pub fast : Header → Bool
-fast h = eqb (h .flags / 2 % 2) 1
+-- "Stored sheets with flag bit 1 are still read"; "bit 1 stays known"
+abbrev pub retired : Header → Bool
+retired h = eqb (h .flags / 2 % 2) 1
 
 -- what refusal 11 asks of a header over a sheet of n bytes: "wrong length, version, count, offset or unknown flag"; "vertex offset (4) = 16, view
 -- offset (4) = 16 + 24V"; "Length is exactly 16 + 24V + 64W." The vertex limit is `most`.

@@ -21,12 +21,16 @@ outlineLine v w closed = ascii "outline " ++ decimal v ++ ascii " " ++ decimal w
 unfoldable pub floats : Float → Float → List ℕ
 floats x y = float x ++ float y
 
-unfoldable pub boundsLine : Bounds → List ℕ
-boundsLine b = ascii "box" ++ floats (b .«min_x») (b .«min_y») ++ floats (b .«max_x») (b .«max_y») ++ ascii "\n"
+-- a box line up to its end; "Under two vertices: `box none`."
+unfoldable pub boxWords : Bounds → List ℕ
+boxWords b = ascii "box" ++ floats (b .«min_x») (b .«min_y») ++ floats (b .«max_x») (b .«max_y»)
 
--- "Under two vertices: `box none`."
-abbrev pub noBoxLine : List ℕ
-noBoxLine = ascii "box none\n"
+abbrev pub noBoxWords : List ℕ
+noBoxWords = ascii "box none"
+
+-- "ends that line with the word `retired`"
+abbrev pub boxEnd : Bool → List ℕ
+boxEnd retired = cond retired (ascii " retired\n") (ascii "\n")
 
 unfoldable pub viewHead : ℕ → List ℕ
 viewHead k = ascii "view " ++ decimal k ++ ascii " "

@@ -5,22 +5,22 @@ use mathlib.Core.List.{List, [], _++_}
 use lib.Dec.{ltb, eqb}
 use lib.Ieee.{Float}
 use Rattle.real.specs.Reply.{Reply, refused, given}
-use Rattle.job.specs.Header.{headerOf, headerOk, closed, fast}
+use Rattle.job.specs.Header.{headerOf, headerOk, closed, retired}
 use Rattle.record.specs.Record.{recordOf}
 use Rattle.job.specs.Outline.{vertexIn}
 use Rattle.job.specs.Extent.{boxTo, lastSegment}
 use Rattle.job.specs.Sheet.{views, outlineOf, recordAt, recordsOf, verticesOk, sheetOf}
 use Rattle.job.specs.Rows.{numbered}
-use Rattle.job.specs.Lines.{refusedLine, outlineLine, boundsLine, noBoxLine}
+use Rattle.job.specs.Lines.{refusedLine, outlineLine, boxWords, noBoxWords, boxEnd}
 use Rattle.job.specs.Views.{viewText, viewBuffer}
 
 -- ---- the whole
 
--- "Under two vertices: `box none`."
+-- Of a sheet with flag bit 1 "the program prints the true box and ends that line with the word `retired`, also after `box none`."
 unfoldable pub boxLine : List ℕ → List ℕ
 boxLine b =
     let h = headerOf b in
-    cond (ltb (h .vertices) 2) noBoxLine (boundsLine (boxTo (fast h) (vertexIn b) (h .vertices) (lastSegment (closed h) (h .vertices))))
+    cond (ltb (h .vertices) 2) noBoxWords (boxWords (boxTo (vertexIn b) (h .vertices) (lastSegment (closed h) (h .vertices)))) ++ boxEnd (retired h)
 
 unfoldable pub wholeText : List ℕ → List ℕ
 wholeText b =

@@ -4,7 +4,6 @@ use plane::PlineVertex;
 use seg::Bounds;
 use seg::BoxAnswer;
 use seg::seg_bounding_box;
-use seg::seg_fast_approx_bounding_box;
 ghost use mathlib.Core.Path.{_≡_};
 ghost use mathlib.Core.Bool.{true};
 ghost use Prim.Native.Nat.{_<_};
@@ -37,22 +36,12 @@ fn wider(a: Bounds, b: Bounds) -> Bounds
     }
 }
 
-fn box_answer(v1: PlineVertex, v2: PlineVertex, fast: bool) -> BoxAnswer
-    ensures { λ r. ⌜ spec.boxReply r ≡ spec.boxAnswer fast v1 v2 ⌝ }
-{
-    if fast {
-        seg_fast_approx_bounding_box(v1, v2)
-    } else {
-        seg_bounding_box(v1, v2)
-    }
-}
-
 // The box of a segment whose vertices are in range, so that none is refused.
-fn segment_box(v1: PlineVertex, v2: PlineVertex, fast: bool) -> Bounds
+fn segment_box(v1: PlineVertex, v2: PlineVertex) -> Bounds
     requires { ⌜ segOk double v1 v2 ≡ true ⌝ }
-    ensures { λ r. ⌜ r ≡ spec.boxFor fast v1 v2 ⌝ }
+    ensures { λ r. ⌜ r ≡ spec.segmentBox v1 v2 ⌝ }
 {
-    let answer = box_answer(v1, v2, fast);
+    let answer = seg_bounding_box(v1, v2);
     match answer {
         BoxAnswer::Given(b) => b,
         BoxAnswer::Refused(_) => Bounds {
@@ -65,25 +54,25 @@ fn segment_box(v1: PlineVertex, v2: PlineVertex, fast: bool) -> Bounds
 }
 
 // The box of the segment that starts at vertex k, of n vertices.
-fn box_at(bytes: &[u8], n: usize, k: usize, fast: bool) -> Bounds
+fn box_at(bytes: &[u8], n: usize, k: usize) -> Bounds
     requires { ⌜ (spec.Sound (now bytes) n) × (k < n) ⌝ }
-    ensures { λ r. ⌜ r ≡ spec.boxAt fast (vertexIn (now (bytes .entry))) n k ⌝ }
+    ensures { λ r. ⌜ r ≡ spec.boxAt (vertexIn (now (bytes .entry))) n k ⌝ }
 {
     let v1 = vertex_in(bytes, k);
     let v2 = vertex_in(bytes, (k + 1) % n);
-    segment_box(v1, v2, fast)
+    segment_box(v1, v2)
 }
 
 // The box of the segments 0 to `last`.
-pub(crate) fn outline_box(bytes: &[u8], n: usize, last: usize, fast: bool) -> Bounds
+pub(crate) fn outline_box(bytes: &[u8], n: usize, last: usize) -> Bounds
     requires { ⌜ (spec.Sound (now bytes) n) × (last < n) ⌝ }
-    ensures { λ r. ⌜ r ≡ spec.boxTo fast (vertexIn (now (bytes .entry))) n last ⌝ }
+    ensures { λ r. ⌜ r ≡ spec.boxTo (vertexIn (now (bytes .entry))) n last ⌝ }
 {
-    let mut b = box_at(bytes, n, 0, fast);
+    let mut b = box_at(bytes, n, 0);
     let mut k = 0;
     while k < last {
         k += 1;
-        b = wider(b, box_at(bytes, n, k, fast));
+        b = wider(b, box_at(bytes, n, k));
     }
     b
 }

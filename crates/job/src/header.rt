@@ -60,9 +60,9 @@ pub(crate) fn is_closed(h: Header) -> bool
     h.flags % 2 == 1
 }
 
-// Whether the box line uses the fast box.
-pub(crate) fn is_fast(h: Header) -> bool
-    ensures { λ r. ⌜ r ≡ spec.fast h ⌝ }
+// Whether the box line ends with the word for a stored sheet's old bit.
+pub(crate) fn is_retired(h: Header) -> bool
+    ensures { λ r. ⌜ r ≡ spec.retired h ⌝ }
 {
     h.flags / 2 % 2 == 1
 }

@@ -5,6 +5,7 @@ use text::put_decimal;
 use text::put_float;
 use text::put_text;
 use view::Mark;
+ghost use mathlib.Core.Bool.{cond};
 ghost use mathlib.Core.List.{[], _∷_, _++_};
 ghost use Rattle.view.specs.Validation.{markCase};
 ghost use Rattle.text.specs.Digits.{decimal};
@@ -27,13 +28,14 @@ pub(crate) fn put_refused(out: &mut [u8], at: usize, number: usize) -> usize
     put_worded(out, at, b"refused ", number, b'\n')
 }
 
-fn put_closed(out: &mut [u8], at: usize, closed: bool) -> usize
-    ensures { λ r. ⌜ Put (now (out .entry)) at (spec.closedWord closed) (now (out .exit)) r ⌝ }
+// The one text where the flag is set, the other where it is clear.
+fn put_either(out: &mut [u8], at: usize, flag: bool, set: &[u8], clear: &[u8]) -> usize
+    ensures { λ r. ⌜ Put (now (out .entry)) at (cond flag (now (set .entry)) (now (clear .entry))) (now (out .exit)) r ⌝ }
 {
-    if closed {
-        put_text(out, at, b" closed\n")
+    if flag {
+        put_text(out, at, set)
     } else {
-        put_text(out, at, b" open\n")
+        put_text(out, at, clear)
     }
 }
 
@@ -44,7 +46,7 @@ pub(crate) fn put_outline(out: &mut [u8], vertices: usize, views: usize, closed:
     let b = put_decimal(out, a, vertices as u64);
     let c = put_byte(out, b, b' ');
     let d = put_decimal(out, c, views as u64);
-    put_closed(out, d, closed)
+    put_either(out, d, closed, b" closed\n", b" open\n")
 }
 
 // Two numbers, a space before each.
@@ -55,19 +57,26 @@ fn put_floats(out: &mut [u8], at: usize, x: f64, y: f64) -> usize
     put_float(out, a, y)
 }
 
-pub(crate) fn put_box(out: &mut [u8], b: Bounds) -> usize
-    ensures { λ r. ⌜ Piece (now (out .entry)) 0 (spec.boundsLine b) (now (out .exit)) r ⌝ }
+fn put_box_end(out: &mut [u8], at: usize, retired: bool) -> usize
+    ensures { λ r. ⌜ Put (now (out .entry)) at (spec.boxEnd retired) (now (out .exit)) r ⌝ }
+{
+    put_either(out, at, retired, b" retired\n", b"\n")
+}
+
+pub(crate) fn put_box(out: &mut [u8], b: Bounds, retired: bool) -> usize
+    ensures { λ r. ⌜ Piece (now (out .entry)) 0 (spec.boxWords b ++ spec.boxEnd retired) (now (out .exit)) r ⌝ }
 {
     let a = put_text(out, 0, b"box");
     let c = put_floats(out, a, b.min_x, b.min_y);
     let d = put_floats(out, c, b.max_x, b.max_y);
-    put_byte(out, d, b'\n')
+    put_box_end(out, d, retired)
 }
 
-pub(crate) fn put_no_box(out: &mut [u8]) -> usize
-    ensures { λ r. ⌜ Put (now (out .entry)) 0 spec.noBoxLine (now (out .exit)) r ⌝ }
+pub(crate) fn put_no_box(out: &mut [u8], retired: bool) -> usize
+    ensures { λ r. ⌜ Piece (now (out .entry)) 0 (spec.noBoxWords ++ spec.boxEnd retired) (now (out .exit)) r ⌝ }
 {
-    put_text(out, 0, b"box none\n")
+    let a = put_text(out, 0, b"box none");
+    put_box_end(out, a, retired)
 }
 
 fn put_head(out: &mut [u8], k: usize) -> usize

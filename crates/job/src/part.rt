@@ -4,7 +4,7 @@ use crate::header::Header;
 use crate::header::header_is_sound;
 use crate::header::header_of;
 use crate::header::is_closed;
-use crate::header::is_fast;
+use crate::header::is_retired;
 use crate::line::put_box;
 use crate::line::put_no_box;
 use crate::line::put_outline;
@@ -53,10 +53,10 @@ fn put_extent(bytes: &[u8], h: Header, out: &mut [u8]) -> usize
         return 0;
     }
     if n < 2 {
-        return put_no_box(out);
+        return put_no_box(out, is_retired(h));
     }
     let last = last_segment(is_closed(h), n);
-    put_box(out, outline_box(bytes, n, last, is_fast(h)))
+    put_box(out, outline_box(bytes, n, last), is_retired(h))
 }
 
 // The outline's line, or the box line.

@@ -29,22 +29,22 @@ pub struct Room {
 // The rooms are a case's last word, and for two calls the one before it.
 fn room_of(call: u64, before: u64, last: u64) -> Room {
     match call {
-        7 | 11 | 12 | 14 | 18 | 19 => Room {
+        7 | 10 | 11 | 13 | 17 | 18 => Room {
             numbers: 0,
             words: 0,
             bytes: last as usize,
         },
-        13 => Room {
+        12 => Room {
             numbers: last as usize,
             words: before as usize,
             bytes: 0,
         },
-        15 => Room {
+        14 => Room {
             numbers: 0,
             words: last as usize,
             bytes: 0,
         },
-        17 => Room {
+        16 => Room {
             numbers: before as usize,
             words: last as usize,
             bytes: 0,
@@ -80,10 +80,10 @@ fn lend_all(
     if b > byte.len() {
         return UNFIT;
     }
-    if call <= 10 {
+    if call <= 9 {
         return on_segment(call, words, at, s, &mut out[..n], &mut byte[..b]);
     }
-    if call <= 12 {
+    if call <= 11 {
         return on_outline(call, words, at, s, &mut byte[..b]);
     }
     on_record(
@@ -131,17 +131,17 @@ fn lend(
 fn print_answer(call: u64, out: &[f64], whole: &[u64], byte: &[u8]) {
     match call {
         1 => print_numbers(out, 1),
-        2 | 3 | 16 => print_numbers(out, 3),
+        2 | 3 | 15 => print_numbers(out, 3),
         4 => print_numbers(out, 6),
-        5 | 6 | 10 => print_numbers(out, 2),
-        8 | 9 => print_numbers(out, 4),
-        7 | 14 => print_byte(byte),
-        13 => {
+        5 | 6 | 9 => print_numbers(out, 2),
+        8 => print_numbers(out, 4),
+        7 | 13 => print_byte(byte),
+        12 => {
             print_words(whole, 3);
             print_numbers(out, 5);
         }
-        15 => print_words(whole, 1),
-        17 => {
+        14 => print_words(whole, 1),
+        16 => {
             let n = word(whole, 0);
             print_numbers(out, wrapping_add_u64(n, wrapping_add_u64(n, n)));
             print_words(whole, 1);

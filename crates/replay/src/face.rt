@@ -8,7 +8,6 @@ use bisquefern::bf_seg_arc_radius_and_center;
 use bisquefern::bf_seg_bounding_box;
 use bisquefern::bf_seg_closest_point;
 use bisquefern::bf_seg_distance_is_greater_than;
-use bisquefern::bf_seg_fast_approx_bounding_box;
 use bisquefern::bf_seg_midpoint;
 use bisquefern::bf_seg_split_at_point;
 use bisquefern::bf_seg_tangent_vector;
@@ -28,7 +27,7 @@ use std::num::wrapping_add_u64;
 // What a line says of a case that does not fit.
 const UNFIT: u8 = 255;
 
-// Calls 1 to 10.
+// Calls 1 to 9.
 pub fn on_segment(
     call: u64,
     words: &[u64],
@@ -49,8 +48,7 @@ pub fn on_segment(
         5 => bf_seg_tangent_vector(s, x, y, out),
         6 => bf_seg_closest_point(s, x, y, a, out),
         7 => bf_seg_distance_is_greater_than(s, x, y, a, b, byte),
-        8 => bf_seg_fast_approx_bounding_box(s, out),
-        9 => bf_seg_bounding_box(s, out),
+        8 => bf_seg_bounding_box(s, out),
         _ => bf_seg_midpoint(s, out),
     }
 }
@@ -82,9 +80,9 @@ fn create_of(words: &[u64], at: u64, s: &[f64], vertex: &[f64], n: usize, out: &
     create(words, at, s, &vertex[..n], out)
 }
 
-// Calls 11 and 12.
+// Calls 10 and 11.
 pub fn on_outline(call: u64, words: &[u64], at: u64, s: &[f64], out: &mut [u8]) -> u8 {
-    if call == 12 {
+    if call == 11 {
         return new_start(words, at, s, out);
     }
     let mut vertex = [0.0; 16];
@@ -93,7 +91,7 @@ pub fn on_outline(call: u64, words: &[u64], at: u64, s: &[f64], out: &mut [u8]) 
     create_of(words, at, s, &vertex, n as usize, out)
 }
 
-// Calls 13 to 19, past the record: a closed flag before it, or numbers at `past` after it.
+// Calls 12 to 18, past the record: a closed flag before it, or numbers at `past` after it.
 fn with_record(
     call: u64,
     words: &[u64],
@@ -108,17 +106,17 @@ fn with_record(
     let i = word(words, past);
     let j = word(words, wrapping_add_u64(past, 1));
     match call {
-        13 => bf_view_validate(s, record, whole, out),
-        14 => bf_view_mark(s, closed, record, byte),
-        15 => bf_view_count(s, record, whole),
-        16 => bf_view_get(s, record, i, out),
-        17 => bf_view_list(s, record, out, whole),
-        18 => bf_view_reverse(s, record, byte),
+        12 => bf_view_validate(s, record, whole, out),
+        13 => bf_view_mark(s, closed, record, byte),
+        14 => bf_view_count(s, record, whole),
+        15 => bf_view_get(s, record, i, out),
+        16 => bf_view_list(s, record, out, whole),
+        17 => bf_view_reverse(s, record, byte),
         _ => bf_view_trim(s, record, i, j, byte),
     }
 }
 
-// Calls 13 to 19, with the first n bytes of the record's space.
+// Calls 12 to 18, with the first n bytes of the record's space.
 fn record_of(
     call: u64,
     words: &[u64],
@@ -138,7 +136,7 @@ fn record_of(
     with_record(call, words, past, closed, s, &record[..n], out, whole, byte)
 }
 
-// Calls 13 to 19.
+// Calls 12 to 18.
 pub fn on_record(
     call: u64,
     words: &[u64],
@@ -149,7 +147,7 @@ pub fn on_record(
     byte: &mut [u8],
 ) -> u8 {
     let closed = low_byte(word(words, at));
-    let from = if call == 14 {
+    let from = if call == 13 {
         wrapping_add_u64(at, 1)
     } else {
         at

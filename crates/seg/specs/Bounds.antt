@@ -1,6 +1,6 @@
--- The boxes of pline_seg.rs: `line_seg_bounding_box`, `arc_seg_bounding_box`, `seg_bounding_box`, `seg_fast_approx_bounding_box`.
+-- The box of pline_seg.rs: `line_seg_bounding_box`, `arc_seg_bounding_box`, `seg_bounding_box`.
 use mathlib.Core.Bool.{Bool, cond, not, _&&_, _||_}
-use lib.Ieee.{Float, lt, neg}
+use lib.Ieee.{Float, lt}
 use Rattle.real.specs.Refusal.{badNumber}
 use Rattle.real.specs.Reply.{Reply, refused, given, check}
 use Rattle.plane.specs.Grade.{Grade, Arith, arith}
@@ -36,8 +36,8 @@ anyOf c = c .right || (c .left || (c .top || c .bottom))
 
 module _ (g : Grade) where
   infixl 6 _⊕_ _⊖_
-  infixl 7 _⊗_ _⊘_
-  open Arith (arith g) using (_⊕_, _⊖_, _⊗_, _⊘_)
+  infixl 7 _⊗_
+  open Arith (arith g) using (_⊕_, _⊖_, _⊗_)
   open Grade g using (zero, one, two, fuzz)
 
   -- "The true box is extended only by strict sign changes."
@@ -79,30 +79,9 @@ module _ (g : Grade) where
   unfoldable pub arcBox : PlineVertex → PlineVertex → Bounds
   arcBox v1 v2 = arcBoxBy v1 v2 (lineBox (posOf v1) (posOf v2)) (crossingsOf (startRadius v1 v2) (endRadius v1 v2))
 
-  -- "The fast box adds the sagitta offset": to the least edge where it is negative, else to the greatest
-  abbrev pub downBy : Float → Float → Float
-  downBy edge offset = cond (lt offset zero) (edge ⊕ offset) edge
-
-  abbrev pub upBy : Float → Float → Float
-  upBy edge offset = cond (lt offset zero) edge (edge ⊕ offset)
-
-  unfoldable pub arcFastBox : PlineVertex → PlineVertex → Bounds
-  arcFastBox v1 v2 =
-      let ends = lineBox (posOf v1) (posOf v2) in
-      let half = v1 .bulge ⊘ two in
-      let dx = half ⊗ (v2 .y ⊖ v1 .y) in
-      let dy = neg half ⊗ (v2 .x ⊖ v1 .x) in
-      bounds (downBy (ends .«min_x») dx) (downBy (ends .«min_y») dy) (upBy (ends .«max_x») dx) (upBy (ends .«max_y») dy)
-
   module _ (limit : Float) where
     unfoldable pub boxOf : PlineVertex → PlineVertex → Bounds
     boxOf v1 v2 = cond (lineOf g limit v1) (lineBox (posOf v1) (posOf v2)) (arcBox v1 v2)
 
     unfoldable pub segBox : PlineVertex → PlineVertex → Reply Bounds
     segBox v1 v2 = check (segOk g v1 v2) badNumber (given (boxOf v1 v2))
-
-    unfoldable pub fastBox : PlineVertex → PlineVertex → Bounds
-    fastBox v1 v2 = cond (lineOf g limit v1) (lineBox (posOf v1) (posOf v2)) (arcFastBox v1 v2)
-
-    unfoldable pub segFastBox : PlineVertex → PlineVertex → Reply Bounds
-    segFastBox v1 v2 = check (segOk g v1 v2) badNumber (given (fastBox v1 v2))

@@ -9,16 +9,15 @@ use Rattle.seg.specs.Arc.{segCircle}
 use Rattle.seg.specs.Split.{splitAt, segSplit}
 use Rattle.seg.specs.Tangent.{segTangent}
 use Rattle.seg.specs.Middle.{segMid}
-use Rattle.seg.specs.Bounds.{bounds, segBox, segFastBox}
+use Rattle.seg.specs.Bounds.{bounds, segBox}
 use Rattle.seg.specs.Cases.{f64, minusZero, half, minusHalf, minusOne, three, vec, H, H′, G, G′}
 open Grade double using (zero, one, two, four, line, onVertex)
 
 pub record SegmentTable : Type 0 where
   -- P1 H: radius 0.5, centre (0.5,0)
   pub p1 : segCircle double line H H′ ≡ given (record { radius = half; center = vec half zero })
-  -- P2 true and fast box of H: (0,-0.5) to (1,0)
-  pub p2-true : segBox double line H H′ ≡ given (bounds zero minusHalf one zero)
-  pub p2-fast : segFastBox double line H H′ ≡ given (bounds zero minusHalf one zero)
+  -- P2, which "keeps only the true box" of H: (0,-0.5) to (1,0)
+  pub p2 : segBox double line H H′ ≡ given (bounds zero minusHalf one zero)
   -- P3 midpoint (0.5,-0.5)
   pub p3 : segMid double line H H′ ≡ given (vec half minusHalf)
   -- P4 tangent at (3,1) is (1,0); P5 at (2,2): (0,-1)

@@ -1,4 +1,4 @@
-// The true and the fast box of a segment.
+// The box of a segment.
 use crate::arc::Circle;
 use crate::arc::arc_circle;
 use crate::arc::chord;
@@ -13,7 +13,7 @@ ghost use mathlib.Core.Path.{_≡_};
 ghost use mathlib.Core.Bool.{cond};
 ghost use Rattle.plane.specs.Grade.{double};
 ghost use Rattle.plane.specs.Vertex.{posOf};
-ghost use Rattle.seg.specs.Bounds.{boxReply, lineBox, rises, falls, crossingsOf, anyOf, startRadius, endRadius, crossBox, arcBoxBy, arcBox, boxOf, segBox, downBy, upBy, arcFastBox, fastBox, segFastBox};
+ghost use Rattle.seg.specs.Bounds.{boxReply, lineBox, rises, falls, crossingsOf, anyOf, startRadius, endRadius, crossBox, arcBoxBy, arcBox, boxOf, segBox};
 
 pub struct Bounds {
     pub min_x: f64,
@@ -153,51 +153,4 @@ pub fn seg_bounding_box(v1: PlineVertex, v2: PlineVertex) -> BoxAnswer
         return BoxAnswer::Refused(BAD_NUMBER);
     }
     BoxAnswer::Given(true_box(v1, v2))
-}
-
-// A least edge of the fast box, moved by the sagitta's offset where that goes its way.
-fn down(edge: f64, offset: f64) -> f64
-    ensures { λ r. ⌜ r ≡ downBy double edge offset ⌝ }
-{
-    if offset < 0.0 { edge + offset } else { edge }
-}
-
-// A greatest edge.
-fn up(edge: f64, offset: f64) -> f64
-    ensures { λ r. ⌜ r ≡ upBy double edge offset ⌝ }
-{
-    if offset < 0.0 { edge } else { edge + offset }
-}
-
-fn arc_fast_box(v1: PlineVertex, v2: PlineVertex) -> Bounds
-    ensures { λ r. ⌜ r ≡ arcFastBox double v1 v2 ⌝ }
-{
-    let ends = ends_box(v1, v2);
-    let half_bulge = v1.bulge / 2.0;
-    let offset_x = half_bulge * (v2.y - v1.y);
-    let offset_y = -half_bulge * (v2.x - v1.x);
-    Bounds {
-        min_x: down(ends.min_x, offset_x),
-        min_y: down(ends.min_y, offset_y),
-        max_x: up(ends.max_x, offset_x),
-        max_y: up(ends.max_y, offset_y),
-    }
-}
-
-fn fast_box(v1: PlineVertex, v2: PlineVertex) -> Bounds
-    ensures { λ r. ⌜ r ≡ fastBox double (double .line) v1 v2 ⌝ }
-{
-    if v1.bulge_is_zero() {
-        return ends_box(v1, v2);
-    }
-    arc_fast_box(v1, v2)
-}
-
-pub fn seg_fast_approx_bounding_box(v1: PlineVertex, v2: PlineVertex) -> BoxAnswer
-    ensures { λ r. ⌜ boxReply r ≡ segFastBox double (double .line) v1 v2 ⌝ }
-{
-    if !seg_in_range(v1, v2) {
-        return BoxAnswer::Refused(BAD_NUMBER);
-    }
-    BoxAnswer::Given(fast_box(v1, v2))
 }

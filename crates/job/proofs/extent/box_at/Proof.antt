@@ -7,7 +7,7 @@ use borrow.Author.Needs.{needs}
 use denote.Ref.{now}
 use Rattle.plane.specs.Grade.{double}
 use Rattle.plane.specs.Range.{segOk}
-use Rattle.job.specs.Extent.{boxFor}
+use Rattle.job.specs.Extent.{segmentBox}
 use Rattle.job.proofs.Boxes.{segment-ok}
 use Rattle.job.proofs.extent.box_at.Statement.{statement}
 use Rattle.job.proofs.extent.box_at.Tie as tie
@@ -24,7 +24,7 @@ segment-box-requires c κs =
     ap₂ (segOk double) (c .before .vertex-in .ensures) (c .vertex-in2 .ensures) ∙ segment-ok (now (o .args .bytes)) (o .args .n) (o .args .k) (o .pre .0) (o .pre .1)
 
 returns : tie.Need-returns
-returns c = c .segment-box .ensures ∙ ap₂ (boxFor (c .before .before .before .before .args .fast)) (c .before .before .vertex-in .ensures) (c .before .vertex-in2 .ensures)
+returns c = c .segment-box .ensures ∙ ap₂ segmentBox (c .before .before .vertex-in .ensures) (c .before .vertex-in2 .ensures)
 
 pub box-at-spec : {M : Type 1} → statement M
 box-at-spec = tie.close (tie.spec (λ c κs. search needs) (λ c. search needs) (λ c. search needs) second segment-box-requires returns)

@@ -10,10 +10,10 @@ use Rattle.job.proofs.extent.outline_box.Statement.{statement}
 use Rattle.job.proofs.extent.outline_box.Tie as tie
 
 abbrev Inv-loop : tie.InvT-loop
-Inv-loop bytes n last fast b₀ k₀ b k = (k ≤ last) × (b ≡ boxTo fast (vertexIn bytes) n k)
+Inv-loop bytes n last b₀ k₀ b k = (k ≤ last) × (b ≡ boxTo (vertexIn bytes) n k)
 
 abbrev μ-loop : tie.MeasureT-loop
-μ-loop bytes n last fast b₀ k₀ b k = last - k
+μ-loop bytes n last b₀ k₀ b k = last - k
 
 loop-holds : tie.Need-loop-holds Inv-loop μ-loop
 unfolding boxTo
@@ -25,15 +25,15 @@ loop-again c =
     let a = c .before .before .before .before .before .before .args in
     let l = c .before .before .before .loop in (
       omega arith,
-      c .wider .ensures ∙ ap₂ wider (l .inv .1) (c .before .box-at2 .ensures ∙ ap (boxAt (a .fast) (vertexIn (now (a .bytes))) (a .n)) (add-one (l .k)))
-          ∙ ap (boxTo (a .fast) (vertexIn (now (a .bytes))) (a .n)) (sym (add-one (l .k))),
+      c .wider .ensures ∙ ap₂ wider (l .inv .1) (c .before .box-at2 .ensures ∙ ap (boxAt (vertexIn (now (a .bytes))) (a .n)) (add-one (l .k)))
+          ∙ ap (boxTo (vertexIn (now (a .bytes))) (a .n)) (sym (add-one (l .k))),
     )
 
 returns : tie.Need-returns Inv-loop μ-loop
 returns c =
     let a = c .before .before .before .before .args in
     let e : c .before .loop .k ≡ a .last = omega arith in
-    c .before .loop .inv .1 ∙ ap (boxTo (a .fast) (vertexIn (now (a .bytes))) (a .n)) e
+    c .before .loop .inv .1 ∙ ap (boxTo (vertexIn (now (a .bytes))) (a .n)) e
 
 pub outline-box-spec : {M : Type 1} → statement M
 outline-box-spec =
