@@ -9,14 +9,14 @@ use borrow.Author.Tests.{leb-true, eqb-true}
 use Rattle.real.proofs.Replies.{and-both}
 use Rattle.plane.specs.Range.{mostVertices}
 use Rattle.job.specs.declared.header.Header.{Header}
-use Rattle.job.specs.Header.{mostViews, headerSize, vertexSize, headerOf, headerUnder, headerFits, headerOk, Headed}
+use Rattle.job.specs.Header.{mostViews, headerSize, vertexSize, headerOf, unknownFlags, headerUnder, headerFits, headerOk, Headed}
 
 pub headed : (b : List ℕ) (h : Header) → headerOk b ≡ true → h ≡ headerOf b → Headed b h
 unfolding headerOk headerUnder
 headed b h ok e =
     let fits = subst (λ (k : Header). headerFits k (length b) ≡ true) (sym e) ok in
     let flags = and-both (eqb (h .version) 1) _ fits .1 in
-    let vertices = and-both (ltb (h .flags) 4) _ flags .1 in
+    let vertices = and-both (ltb (h .flags) unknownFlags) _ flags .1 in
     let views = and-both (leb (h .vertices) mostVertices) _ vertices in
     let offsets = and-both (leb (h .views) mostViews) _ (views .1) in
     let last = and-both (eqb (h .«vertex_offset») headerSize) _ (offsets .1) .1 in

@@ -1,5 +1,4 @@
 -- The lines of a sheet's text are short: a number has at most four digits, a float 17 bytes with its space.
-use mathlib.Core.Path.{_≡_}
 use mathlib.Core.Bool.{Bool, true, false}
 use mathlib.Core.List.{List, _++_}
 use Prim.Native.Nat.{ℕ, zero, suc, _+_, _*_, _≤_, _<_}

@@ -1,4 +1,4 @@
--- The theorems: Whole, OldSheets, Viewing, Same, Example. Sheets has what the program uses.
+-- The theorems: Whole, OldSheets, RetiredSheets, Viewing, Same, Example. Sheets has what the program uses.
 mod Tests
 mod Lengths
 mod Joined
@@ -10,5 +10,6 @@ pub mod Viewing
 mod Parting
 pub mod Whole
 pub mod OldSheets
+pub mod RetiredSheets
 pub mod Same
 pub mod Example

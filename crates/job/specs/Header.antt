@@ -41,12 +41,16 @@ closed h = eqb (h .flags % 2) 1
 abbrev pub retired : Header → Bool
 retired h = eqb (h .flags / 2 % 2) 1
 
+-- "11 still covers unknown flags": those beyond bits 0 and 1
+abbrev pub unknownFlags : ℕ
+unknownFlags = 4
+
 -- what refusal 11 asks of a header over a sheet of n bytes: "wrong length, version, count, offset or unknown flag"; "vertex offset (4) = 16, view
 -- offset (4) = 16 + 24V"; "Length is exactly 16 + 24V + 64W." The vertex limit is `most`.
 unfoldable pub headerUnder : ℕ → Header → ℕ → Bool
 headerUnder most h n =
     eqb (h .version) 1
-    && (ltb (h .flags) 4
+    && (ltb (h .flags) unknownFlags
     && (leb (h .vertices) most
     && (leb (h .views) mostViews
     && (eqb (h .«vertex_offset») headerSize

@@ -7,4 +7,5 @@ pub mod Lines
 pub mod Views
 pub mod Parts
 pub mod OldSheets
+pub mod RetiredSheets
 pub mod Example

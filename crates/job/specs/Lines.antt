@@ -21,7 +21,7 @@ outlineLine v w closed = ascii "outline " ++ decimal v ++ ascii " " ++ decimal w
 unfoldable pub floats : Float → Float → List ℕ
 floats x y = float x ++ float y
 
--- a box line up to its end; "Under two vertices: `box none`."
+-- a box line up to its end
 unfoldable pub boxWords : Bounds → List ℕ
 boxWords b = ascii "box" ++ floats (b .«min_x») (b .«min_y») ++ floats (b .«max_x») (b .«max_y»)
 

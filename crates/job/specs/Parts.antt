@@ -16,11 +16,15 @@ use Rattle.job.specs.Views.{viewText, viewBuffer}
 
 -- ---- the whole
 
--- Of a sheet with flag bit 1 "the program prints the true box and ends that line with the word `retired`, also after `box none`."
-unfoldable pub boxLine : List ℕ → List ℕ
-boxLine b =
+-- "Under two vertices: `box none`."
+abbrev pub boxHead : List ℕ → List ℕ
+boxHead b =
     let h = headerOf b in
-    cond (ltb (h .vertices) 2) noBoxWords (boxWords (boxTo (vertexIn b) (h .vertices) (lastSegment (closed h) (h .vertices)))) ++ boxEnd (retired h)
+    cond (ltb (h .vertices) 2) noBoxWords (boxWords (boxTo (vertexIn b) (h .vertices) (lastSegment (closed h) (h .vertices))))
+
+-- Of a sheet with flag bit 1 it "prints the true box and ends that line with the word `retired`, also after `box none`."
+unfoldable pub boxLine : List ℕ → List ℕ
+boxLine b = boxHead b ++ boxEnd (retired (headerOf b))
 
 unfoldable pub wholeText : List ℕ → List ℕ
 wholeText b =
