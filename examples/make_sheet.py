@@ -4,7 +4,7 @@
 A line is one of these. Words are separated by spaces, and '#' begins a comment:
 
     outline closed      or: outline open
-    box fast            the box line uses the fast box; left out, or: box true, it uses the true box
+    box true            may be left out: a sheet's box is always the true one ('box fast' is retired)
     vertex X Y BULGE    a vertex of the outline; the bulge is that of the segment that starts there
     view                a view; the lines below it, in any order, say what it is:
       start INDEX       the outline's segment on which it starts
@@ -35,7 +35,7 @@ from tool import Wrong, read, run, wanted, write
 # The words of each line after its first.
 FORMS = {
     "outline": "closed|open",
-    "box": "fast|true",
+    "box": "true",
     "vertex": "X Y BULGE",
     "view": "",
     "start": "INDEX",
@@ -45,6 +45,8 @@ FORMS = {
     "end-bulge": "BULGE",
     "inverted": "",
 }
+# What is said to a text that asks for the other box. Its flag is still read in stored sheets, and set in none that is made.
+RETIRED = "'box true' or no box line: 'box fast' is retired, and no sheet is made with its flag"
 # What each view needs, in the order of a record.
 NEEDED = ("start", "offset", "from", "end-bulge", "to")
 # A sheet counts its vertices and its views in 16 bits each.
@@ -78,10 +80,12 @@ def value(field, word):
 def values(name, number, key, words):
     """What the words after a line's first say."""
     fields = FORMS[key].split()
-    choices = FORMS[key].split("|")
-    if len(words) != len(fields) or len(choices) > 1 and words[0] not in choices:
+    choices = FORMS[key].split("|") if FORMS[key].islower() else []
+    if [key, *words] == ["box", "fast"]:
+        raise wanted(name, number, RETIRED)
+    if len(words) != len(fields) or choices and words[0] not in choices:
         raise wanted(name, number, form(key) if fields else f"no word after '{key}'")
-    if len(choices) > 1:
+    if choices:
         return words
     found = []
     for field, word in zip(fields, words):
@@ -139,7 +143,7 @@ def parse(name, data):
 
 
 def pack(alone, vertices, views):
-    flags = (alone["outline"][1] == ["closed"]) + 2 * ("box" in alone and alone["box"][1] == ["fast"])
+    flags = int(alone["outline"][1] == ["closed"])
     out = [struct.pack("<HHHHII", 1, flags, len(vertices), len(views), 16, 16 + 24 * len(vertices))]
     for vertex in vertices:
         out.append(struct.pack("<3d", *vertex["vertex"][1]))

@@ -39,6 +39,7 @@ SHEET_REFUSALS = {
 VIEW_REFUSALS = {"1": BAD_NUMBER, "4": "start index not below the vertex count"}
 COUNT = "(0|[1-9][0-9]{0,3})"
 FLOAT = "([0-9a-f]{16})"
+RETIRED = "((?: retired)?)"
 
 
 class Text:
@@ -114,11 +115,11 @@ def show_view(text, k, vertices, kind):
 
 def show_box(text, vertices):
     if vertices < 2:
-        text.line("box none", "'box none'")
-        text.show("box none")
+        (retired,) = text.line(f"box none{RETIRED}", "'box none'")
+        text.show(f"box none{retired}")
         return
-    floats = text.line(f"box {FLOAT} {FLOAT} {FLOAT} {FLOAT}", "'box X Y X Y', each float 16 hex digits")
-    text.show(f"box {text.decimals(floats)}")
+    *floats, retired = text.line(f"box {FLOAT} {FLOAT} {FLOAT} {FLOAT}{RETIRED}", "'box X Y X Y', each float 16 hex digits")
+    text.show(f"box {text.decimals(floats)}{retired}")
 
 
 def show_sheet(text):

@@ -153,12 +153,10 @@ static void call_segments(void)
     say("over, tolerance 2", BYTE, 1, bf_seg_distance_is_greater_than(H, 6, 0.5, 0, 0.5, 2, bytes + shift, 1));
     say("over, no room", BYTE, 1, bf_seg_distance_is_greater_than(H, 6, 0.5, 0, 0.5, 1e-5, bytes + shift, 0));
 
-    say("P2 fast box", NUMBERS, 4, bf_seg_fast_approx_bounding_box(H, 6, numbers, 4));
-    say("fast box, slanted", NUMBERS, 4, bf_seg_fast_approx_bounding_box(SLANTED, 6, numbers, 4));
-    say("fast box of 7 numbers", NUMBERS, 4, bf_seg_fast_approx_bounding_box(Q, 7, numbers, 4));
-    say("P2 true box", NUMBERS, 4, bf_seg_bounding_box(H, 6, numbers, 4));
-    say("true box, slanted", NUMBERS, 4, bf_seg_bounding_box(SLANTED, 6, numbers, 4));
-    say("true box, room for 2", NUMBERS, 4, bf_seg_bounding_box(H, 6, numbers, 2));
+    say("P2 box", NUMBERS, 4, bf_seg_bounding_box(H, 6, numbers, 4));
+    say("box, slanted", NUMBERS, 4, bf_seg_bounding_box(SLANTED, 6, numbers, 4));
+    say("box of 7 numbers", NUMBERS, 4, bf_seg_bounding_box(Q, 7, numbers, 4));
+    say("box, room for 2", NUMBERS, 4, bf_seg_bounding_box(H, 6, numbers, 2));
 
     say("P3", NUMBERS, 2, bf_seg_midpoint(H, 6, numbers, 2));
     say("middle of a line", NUMBERS, 2, bf_seg_midpoint(LINE, 6, numbers, 2));

@@ -26,11 +26,22 @@ same() {
 sheet <"$root/examples/gasket.sheet" >"$work/out" 2>"$work/err"
 same "a good sheet" "$root/examples/gasket.out" ""
 
+# with flag 2 a stored sheet prints the word beside its box, with flag 4 it is refused
+with_flags() { head -c 2 "$root/examples/gasket.sheet"; printf "$1"; tail -c +4 "$root/examples/gasket.sheet"; }
+sed '2s/$/ retired/' "$root/examples/gasket.out" >"$work/retired"
+with_flags '\003' | sheet >"$work/out" 2>"$work/err"
+same "a retired flag" "$work/retired" ""
+printf '\001\0\002\0\0\0\0\0\020\0\0\0\020\0\0\0' | sheet >"$work/out" 2>"$work/err"
+printf 'outline 0 0 open\nbox none retired\n' >"$work/retired"
+same "a retired flag and no box" "$work/retired" ""
+echo "refused 11" >"$work/refused"
+with_flags '\005' | sheet >"$work/out" 2>"$work/err"
+same "an unknown flag" "$work/refused" ""
+
 # a pipe gives the sheet in pieces
 (head -c 5 "$root/examples/gasket.sheet"; sleep 1; tail -c +6 "$root/examples/gasket.sheet") | sheet >"$work/out" 2>"$work/err"
 same "a sheet in pieces" "$root/examples/gasket.out" ""
 
-echo "refused 11" >"$work/refused"
 sheet <"$work/empty" >"$work/out" 2>"$work/err"
 same "no bytes" "$work/refused" ""
 

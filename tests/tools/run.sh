@@ -90,7 +90,7 @@ usage="usage: make_sheet.py TEXT SHEET (--help says more)"
 says 2 "$usage" make
 says 2 "$usage" make text
 says 2 "$usage" make text made more
-says 2 "$usage" make --fast made
+says 2 "$usage" make --text made
 made kept
 
 # --- text_numbers.py refuses
@@ -158,6 +158,13 @@ shown "$cases/names.numbers"
 text 'outline 1 2 closed\nbox none\nview 0 1 hold 0\nview 1 refused 1\n'
 ends 0 show text
 text 'outline 1 2 closed\nbox none\nview 0 1 hold 0 (no segments)\nview 1 refused 1 (a number is NaN, infinite or out of range)\n'
+shown text
+text 'outline 1 0 closed\nbox none retired\n'
+ends 0 show text
+shown text
+text 'outline 2 0 open\nbox 0000000000000000 bfe0000000000000 3ff0000000000000 0000000000000000 retired\n'
+ends 0 show text
+text 'outline 2 0 open\nbox 0.0 -0.5 1.0 0.0 retired\n'
 shown text
 awk 'BEGIN {
     print "outline 2000 256 closed\nbox 3ff0000000000000 3ff0000000000000 3ff0000000000000 3ff0000000000000"
