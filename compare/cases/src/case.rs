@@ -19,18 +19,17 @@
 //! | 5 seg_tangent_vector | seg.., x, y, out |
 //! | 6 seg_closest_point | seg.., x, y, tolerance, out |
 //! | 7 seg_distance_is_greater_than | seg.., x, y, distance, tolerance, out |
-//! | 8 seg_fast_approx_bounding_box | seg.., out |
-//! | 9 seg_bounding_box | seg.., out |
-//! | 10 seg_midpoint | seg.., out |
-//! | 11 view_create | outline.., start, x, y, intersect, vertex.., traverse, tolerance, out |
-//! | 12 view_from_new_start | outline.., closed, x, y, start, tolerance, out |
-//! | 13 view_validate | outline.., record.., whole, out |
-//! | 14 view_mark | outline.., closed, record.., out |
-//! | 15 view_count | outline.., record.., out |
-//! | 16 view_get | outline.., record.., position, out |
-//! | 17 view_list | outline.., record.., out, count |
-//! | 18 view_reverse | outline.., record.., out |
-//! | 19 view_trim | outline.., record.., i, j, out |
+//! | 8 seg_bounding_box | seg.., out |
+//! | 9 seg_midpoint | seg.., out |
+//! | 10 view_create | outline.., start, x, y, intersect, vertex.., traverse, tolerance, out |
+//! | 11 view_from_new_start | outline.., closed, x, y, start, tolerance, out |
+//! | 12 view_validate | outline.., record.., whole, out |
+//! | 13 view_mark | outline.., closed, record.., out |
+//! | 14 view_count | outline.., record.., out |
+//! | 15 view_get | outline.., record.., position, out |
+//! | 16 view_list | outline.., record.., out, count |
+//! | 17 view_reverse | outline.., record.., out |
+//! | 18 view_trim | outline.., record.., i, j, out |
 //!
 //! # The stored answer
 //!
@@ -50,7 +49,6 @@ pub enum Call {
     SegTangentVector,
     SegClosestPoint,
     SegDistanceIsGreaterThan,
-    SegFastApproxBoundingBox,
     SegBoundingBox,
     SegMidpoint,
     ViewCreate,
@@ -65,7 +63,7 @@ pub enum Call {
 }
 
 impl Call {
-    pub const ALL: [Call; 19] = [
+    pub const ALL: [Call; 18] = [
         Call::Sqrt,
         Call::Vertex,
         Call::SegArcRadiusAndCenter,
@@ -73,7 +71,6 @@ impl Call {
         Call::SegTangentVector,
         Call::SegClosestPoint,
         Call::SegDistanceIsGreaterThan,
-        Call::SegFastApproxBoundingBox,
         Call::SegBoundingBox,
         Call::SegMidpoint,
         Call::ViewCreate,
@@ -92,11 +89,9 @@ impl Call {
         match self {
             Call::Sqrt => &[0, 1, 8],
             Call::SegArcRadiusAndCenter => &[0, 1, 3, 6, 8],
-            Call::Vertex
-            | Call::SegTangentVector
-            | Call::SegFastApproxBoundingBox
-            | Call::SegBoundingBox
-            | Call::SegMidpoint => &[0, 1, 3, 8],
+            Call::Vertex | Call::SegTangentVector | Call::SegBoundingBox | Call::SegMidpoint => {
+                &[0, 1, 3, 8]
+            }
             Call::SegSplitAtPoint | Call::SegClosestPoint | Call::SegDistanceIsGreaterThan => {
                 &[0, 1, 2, 3, 8]
             }
@@ -115,7 +110,7 @@ impl Call {
             Call::Sqrt => (1, 0, 0),
             Call::SegTangentVector | Call::SegClosestPoint | Call::SegMidpoint => (2, 0, 0),
             Call::Vertex | Call::SegArcRadiusAndCenter | Call::ViewGet => (3, 0, 0),
-            Call::SegFastApproxBoundingBox | Call::SegBoundingBox => (4, 0, 0),
+            Call::SegBoundingBox => (4, 0, 0),
             Call::SegSplitAtPoint => (6, 0, 0),
             Call::SegDistanceIsGreaterThan | Call::ViewMark => (0, 0, 1),
             Call::ViewCreate | Call::ViewFromNewStart | Call::ViewReverse | Call::ViewTrim => {
@@ -385,11 +380,6 @@ impl Case {
                 let (distance, tolerance) = (a.number(), a.number());
                 *bytes = a.room(byte_pattern);
                 library.seg_distance_is_greater_than(&seg, x, y, distance, tolerance, bytes.lend())
-            }
-            Call::SegFastApproxBoundingBox => {
-                let seg = a.numbers();
-                *numbers = a.room(number_pattern);
-                library.seg_fast_approx_bounding_box(&seg, numbers.lend())
             }
             Call::SegBoundingBox => {
                 let seg = a.numbers();

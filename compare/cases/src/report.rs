@@ -12,7 +12,7 @@ pub struct Report {
     /// The first few differences, in words.
     pub shown: Vec<String>,
     /// How often the oracle gave each refusal to each call.
-    reached: [[u64; 13]; 20],
+    reached: [[u64; 13]; 19],
     /// How often it gave each verdict.
     verdicts: [u64; 8],
     /// How often each kind of line stood in its sheets.

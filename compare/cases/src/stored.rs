@@ -118,7 +118,6 @@ fn by_hand() -> Vec<Case> {
     vec![
         seg(Call::SegArcRadiusAndCenter, &h).room(3),
         seg(Call::SegBoundingBox, &h).room(4),
-        seg(Call::SegFastApproxBoundingBox, &h).room(4),
         seg(Call::SegMidpoint, &h).room(2),
         tangent(3.0, 1.0),
         tangent(2.0, 2.0),

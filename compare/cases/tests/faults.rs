@@ -176,18 +176,14 @@ impl Library for Spoilt {
         Oracle.seg_distance_is_greater_than(seg, x, y, distance, tolerance, out)
     }
 
-    fn seg_fast_approx_bounding_box(&self, seg: &[f64], out: &mut [f64]) -> u8 {
-        let refusal = Oracle.seg_fast_approx_bounding_box(seg, out);
-        if refusal == 0 && self.is(Fault::EqualNumbersNotExchanged) && seg[0] == seg[3] {
-            (out[0], out[2]) = (out[2], out[0]);
-        }
-        refusal
-    }
-
     fn seg_bounding_box(&self, seg: &[f64], out: &mut [f64]) -> u8 {
         let refusal = Oracle.seg_bounding_box(seg, out);
         if refusal == 0 && self.is(Fault::ZeroLosesItsSign) {
             zero_sign_lost(&mut out[..4]);
+        }
+        // Only a zero and a minus zero are equal and show it.
+        if refusal == 0 && self.is(Fault::EqualNumbersNotExchanged) && out[0] == out[2] {
+            out.swap(0, 2);
         }
         refusal
     }

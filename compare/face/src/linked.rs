@@ -55,12 +55,6 @@ unsafe extern "C" {
         out: *mut u8,
         out_len: usize,
     ) -> Refusal;
-    fn bf_seg_fast_approx_bounding_box(
-        seg: *const f64,
-        seg_len: usize,
-        out: *mut f64,
-        out_len: usize,
-    ) -> Refusal;
     fn bf_seg_bounding_box(
         seg: *const f64,
         seg_len: usize,
@@ -254,13 +248,6 @@ impl Library for Bisquefern {
                 out.as_mut_ptr(),
                 out.len(),
             )
-        }
-    }
-
-    #[inline]
-    fn seg_fast_approx_bounding_box(&self, seg: &[f64], out: &mut [f64]) -> u8 {
-        unsafe {
-            bf_seg_fast_approx_bounding_box(seg.as_ptr(), seg.len(), out.as_mut_ptr(), out.len())
         }
     }
 

@@ -209,10 +209,6 @@ impl Library for Bisquefern {
         byte(case.number(distance).number(tolerance), out)
     }
 
-    fn seg_fast_approx_bounding_box(&self, seg: &[f64], out: &mut [f64]) -> u8 {
-        numbers(Case::new(Call::SegFastApproxBoundingBox).numbers(seg), out)
-    }
-
     fn seg_bounding_box(&self, seg: &[f64], out: &mut [f64]) -> u8 {
         numbers(Case::new(Call::SegBoundingBox).numbers(seg), out)
     }

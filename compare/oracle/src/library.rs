@@ -33,7 +33,6 @@ pub trait Library {
         tolerance: f64,
         out: &mut [u8],
     ) -> u8;
-    fn seg_fast_approx_bounding_box(&self, seg: &[f64], out: &mut [f64]) -> u8;
     fn seg_bounding_box(&self, seg: &[f64], out: &mut [f64]) -> u8;
     fn seg_midpoint(&self, seg: &[f64], out: &mut [f64]) -> u8;
     fn view_create(
@@ -200,11 +199,6 @@ impl Library for Oracle {
             segment::seg_distance_is_greater_than(seg, Vector2::new(x, y), distance, tolerance)
                 .and_then(|greater| give([u8::from(greater)], out)),
         )
-    }
-
-    #[inline(never)]
-    fn seg_fast_approx_bounding_box(&self, seg: &[f64], out: &mut [f64]) -> u8 {
-        reply(segment::seg_fast_approx_bounding_box(seg).and_then(|aabb| give(corners(aabb), out)))
     }
 
     #[inline(never)]

@@ -1,4 +1,4 @@
-//! The vertex from three numbers and the eight segment calls. A segment is 6 numbers: its two vertices.
+//! The vertex from three numbers and the seven segment calls. A segment is 6 numbers: its two vertices.
 
 use crate::checks::{check, coordinate_in_range, point_in_range, tolerance, vertex_in_range};
 use crate::{AABB, PlineVertex, SplitResult, Vector2, refusal};
@@ -61,11 +61,6 @@ pub fn seg_distance_is_greater_than(
     Ok(polyline::seg_distance_is_greater_than(
         v1, v2, point, distance, eps,
     ))
-}
-
-pub fn seg_fast_approx_bounding_box(seg: &[f64]) -> Result<AABB, u8> {
-    let (v1, v2) = ends(seg)?;
-    Ok(polyline::seg_fast_approx_bounding_box(v1, v2))
 }
 
 pub fn seg_bounding_box(seg: &[f64]) -> Result<AABB, u8> {

@@ -30,14 +30,9 @@ fn expected(list: &[(f64, f64, f64)]) -> Vec<[u64; 3]> {
 fn p1_to_p3_half_circle() {
     let (radius, center) = segment::seg_arc_radius_and_center(&H).unwrap();
     assert_eq!((radius, center.x, center.y), (0.5, 0.5, 0.0));
-    for aabb in [
-        segment::seg_bounding_box(&H),
-        segment::seg_fast_approx_bounding_box(&H),
-    ] {
-        let aabb = aabb.unwrap();
-        let corners = (aabb.min_x, aabb.min_y, aabb.max_x, aabb.max_y);
-        assert_eq!(corners, (0.0, -0.5, 1.0, 0.0));
-    }
+    let aabb = segment::seg_bounding_box(&H).unwrap();
+    let corners = (aabb.min_x, aabb.min_y, aabb.max_x, aabb.max_y);
+    assert_eq!(corners, (0.0, -0.5, 1.0, 0.0));
     assert_eq!(segment::seg_midpoint(&H), Ok(Vector2::new(0.5, -0.5)));
 }
 

@@ -271,11 +271,6 @@ fn segments() {
                 )
             }
         );
-        row!(
-            &name(Call::SegFastApproxBoundingBox),
-            cases,
-            |library, c, room| { library.seg_fast_approx_bounding_box(&c.seg, &mut room.numbers) }
-        );
         row!(&name(Call::SegBoundingBox), cases, |library, c, room| {
             library.seg_bounding_box(&c.seg, &mut room.numbers)
         });
