@@ -4,7 +4,7 @@ use crate::checks::{MOST_VERTICES, check, outline_in_range};
 use crate::record::{RECORD_BYTES, f64_at, fields, u32_at, well_formed};
 use crate::view::{Outline, is_cut, validate_in, verdict_number, vertices};
 use crate::{AABB, PlineVertex, refusal};
-use cavalier_contours::polyline::{PlineSource, seg_bounding_box, seg_fast_approx_bounding_box};
+use cavalier_contours::polyline::{PlineSource, seg_bounding_box};
 use std::io::{self, Write};
 
 const HEADER_BYTES: usize = 16;
@@ -17,7 +17,8 @@ pub const LONGEST: usize = HEADER_BYTES + VERTEX_BYTES * MOST_VERTICES + RECORD_
 /// A sheet that is not refused.
 struct Sheet<'a> {
     closed: bool,
-    fast_box: bool,
+    /// Flag bit 1, which once asked for another box: now a word ends the box line.
+    retired: bool,
     outline: Vec<f64>,
     records: &'a [u8],
 }
@@ -59,7 +60,7 @@ impl<'a> Sheet<'a> {
 
         Ok(Sheet {
             closed: flags & 1 != 0,
-            fast_box: flags & 2 != 0,
+            retired: flags & 2 != 0,
             outline,
             records,
         })
@@ -75,11 +76,7 @@ impl<'a> Sheet<'a> {
         let boxes = (0..segments).map(|k| {
             let v1 = outline.at(k);
             let v2 = outline.at(outline.next_wrapping_index(k));
-            if self.fast_box {
-                seg_fast_approx_bounding_box(v1, v2)
-            } else {
-                seg_bounding_box(v1, v2)
-            }
+            seg_bounding_box(v1, v2)
         });
         boxes.reduce(|edges, later| AABB {
             min_x: if later.min_x < edges.min_x {
@@ -116,8 +113,8 @@ impl<'a> Sheet<'a> {
         )?;
 
         match self.bounds(&outline) {
-            None => out.write_all(b"box none\n")?,
-            Some(b) => writeln!(
+            None => write!(out, "box none")?,
+            Some(b) => write!(
                 out,
                 "box {:016x} {:016x} {:016x} {:016x}",
                 b.min_x.to_bits(),
@@ -126,6 +123,7 @@ impl<'a> Sheet<'a> {
                 b.max_y.to_bits()
             )?,
         }
+        writeln!(out, "{}", if self.retired { " retired" } else { "" })?;
 
         for (k, record) in self.records.chunks_exact(RECORD_BYTES).enumerate() {
             let record = fields(record);

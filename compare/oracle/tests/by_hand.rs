@@ -1,4 +1,4 @@
-//! The cases that document 01 checked by hand, and its sheet.
+//! The cases that document 01 checked by hand, its sheet, and sheets with the flag that is retired.
 
 use oracle::{PlineVertex, PlineViewData, Vector2, ViewDataValidation, segment, sheet, sqrt, view};
 
@@ -168,28 +168,36 @@ fn refusal_6_is_for_what_is_no_arc() {
     assert_eq!(refused(0.5, 1e-8f64.next_down()), Some(6));
 }
 
-#[test]
-fn sheet_example() {
+/// A sheet; a view is the six numbers of its record, and lies forward on the first segment.
+fn sheet_of(flags: u16, outline: &[f64], views: &[[f64; 6]]) -> Vec<u8> {
+    let count = outline.len() / 3;
     let mut bytes: Vec<u8> = Vec::new();
-    for field in [1u16, 0, 2, 1] {
+    for field in [1, flags, count as u16, views.len() as u16] {
         bytes.extend(field.to_le_bytes());
     }
-    for field in [16u32, 16 + 24 * 2] {
-        bytes.extend(field.to_le_bytes());
+    for field in [16, 16 + 24 * count as u32] {
+        bytes.extend(u32::to_le_bytes(field));
     }
-    for number in H {
-        bytes.extend(f64::to_le_bytes(number));
-    }
-    for field in [0u32, 0] {
-        bytes.extend(field.to_le_bytes());
-    }
-    for number in [0.0f64, 0.0, 1.0, 1.0, 1.0, 0.0] {
+    for number in outline {
         bytes.extend(number.to_le_bytes());
     }
-    for field in [0u32, 0] {
-        bytes.extend(field.to_le_bytes());
+    for view in views {
+        bytes.extend([0; 8]); // start index and offset
+        for number in view {
+            bytes.extend(number.to_le_bytes());
+        }
+        bytes.extend([0; 8]); // direction and reserved
     }
+    bytes
+}
 
+fn text_of(bytes: &[u8]) -> String {
+    String::from_utf8(sheet::sheet_text(bytes)).unwrap()
+}
+
+#[test]
+fn sheet_example() {
+    let bytes = sheet_of(0, &H, &[[0.0, 0.0, 1.0, 1.0, 1.0, 0.0]]);
     let text = "\
 outline 2 1 open
 box 0000000000000000 bfe0000000000000 3ff0000000000000 0000000000000000
@@ -197,7 +205,7 @@ view 0 7 cut 2
 0 0000000000000000 0000000000000000 3ff0000000000000
 1 3ff0000000000000 0000000000000000 0000000000000000
 ";
-    assert_eq!(String::from_utf8(sheet::sheet_text(&bytes)).unwrap(), text);
+    assert_eq!(text_of(&bytes), text);
 
     // One byte short, one long, and each check in its order.
     assert_eq!(
@@ -214,4 +222,69 @@ view 0 7 cut 2
     assert_eq!(sheet::sheet_text(&damaged), b"refused 12\n");
     damaged[2] = 4; // an unknown flag
     assert_eq!(sheet::sheet_text(&damaged), b"refused 11\n");
+}
+
+/// Flag bit 1 set: the true box, and the word behind it. The half circle's chord is tilted, so the box that the bit once
+/// asked for would be larger: y from -1.5, x up to 5.
+#[test]
+fn retired_flag() {
+    // A half circle about (1.5, 2); the whole circle; the half circle, a line, and back by a half circle about (0, 1).
+    const ARC: [f64; 3] = [0.0, 0.0, 1.0];
+    let circle = [&ARC[..], &[3.0, 4.0, 1.0]].concat();
+    let three = [&ARC[..], &[3.0, 4.0, 0.0, 0.0, 2.0, 1.0]].concat();
+    for (flags, outline, text) in [
+        (2, &[][..], "outline 0 0 open\nbox none retired\n"),
+        (3, &[], "outline 0 0 closed\nbox none retired\n"),
+        (2, &ARC, "outline 1 0 open\nbox none retired\n"),
+        (3, &ARC, "outline 1 0 closed\nbox none retired\n"),
+        (
+            2,
+            &circle,
+            "outline 2 0 open\nbox 0000000000000000 bfe0000000000000 4010000000000000 4010000000000000 retired\n",
+        ),
+        (
+            3,
+            &circle,
+            "outline 2 0 closed\nbox bff0000000000000 bfe0000000000000 4010000000000000 4012000000000000 retired\n",
+        ),
+        (
+            2,
+            &three,
+            "outline 3 0 open\nbox 0000000000000000 bfe0000000000000 4010000000000000 4010000000000000 retired\n",
+        ),
+        (
+            3,
+            &three,
+            "outline 3 0 closed\nbox bff0000000000000 bfe0000000000000 4010000000000000 4010000000000000 retired\n",
+        ),
+    ] {
+        assert_eq!(text_of(&sheet_of(flags, outline, &[])), text);
+        // With the bit clear the word is gone, and nothing else.
+        let clear = text.replace(" retired", "");
+        assert_eq!(text_of(&sheet_of(flags - 2, outline, &[])), clear);
+    }
+
+    let view = [0.0, 0.0, 1.0, 1.0, 3.0, 4.0];
+    let mut bytes = sheet_of(2, &circle, &[view]);
+    let text = "\
+outline 2 1 open
+box 0000000000000000 bfe0000000000000 4010000000000000 4010000000000000 retired
+view 0 7 cut 2
+0 0000000000000000 0000000000000000 3ff0000000000000
+1 4008000000000000 4010000000000000 0000000000000000
+";
+    assert_eq!(text_of(&bytes), text);
+
+    // A refused sheet has no box line: 1, then 12 and 11 in front of it, as without the bit.
+    bytes[22..24].copy_from_slice(&[0xf0, 0x7f]); // the first coordinate: infinite
+    assert_eq!(text_of(&bytes), "refused 1\n");
+    bytes[16 + 48 + 60] = 1; // reserved
+    assert_eq!(text_of(&bytes), "refused 12\n");
+    for flags in 4..8 {
+        bytes[2] = flags;
+        assert_eq!(text_of(&bytes), "refused 11\n");
+    }
+    // Bit 1 of the flags' other byte is not the one that is retired.
+    bytes[2..4].copy_from_slice(&[0, 2]);
+    assert_eq!(text_of(&bytes), "refused 11\n");
 }
