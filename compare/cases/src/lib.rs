@@ -8,6 +8,7 @@ use std::process::Command;
 
 pub mod case;
 pub mod compare;
+pub mod former;
 pub mod generate;
 pub mod largest;
 pub mod random;

@@ -20,9 +20,11 @@ pub struct Report {
 }
 
 /// The kinds of lines that sheets have, the lists aside.
-const LINES: [&str; 17] = [
+const LINES: [&str; 19] = [
     "box",
     "box none",
+    "box none retired",
+    "box retired",
     "outline closed",
     "outline open",
     "refused 1",
@@ -45,8 +47,9 @@ fn kind_of(line: &str) -> Option<String> {
     let words: Vec<&str> = line.split(' ').collect();
     match words[..] {
         ["outline", _, _, closed] => Some(format!("outline {closed}")),
-        ["box", "none"] | ["refused", _] => Some(line.to_string()),
+        ["box", "none"] | ["box", "none", "retired"] | ["refused", _] => Some(line.to_string()),
         ["box", _, _, _, _] => Some("box".to_string()),
+        ["box", _, _, _, _, "retired"] => Some("box retired".to_string()),
         ["view", _, "refused", refusal] => Some(format!("view refused {refusal}")),
         ["view", _, verdict, mark, _] => Some(format!("view {verdict} {mark}")),
         _ => None,
@@ -137,7 +140,7 @@ impl Report {
         }
         table += "\nlines of sheets\n";
         for (kind, times) in &self.lines {
-            table += &format!("  {kind:14} {times}\n");
+            table += &format!("  {kind:16} {times}\n");
         }
         table
     }

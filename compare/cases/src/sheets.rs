@@ -64,7 +64,11 @@ pub fn whole_view(outline: &[f64], start: u64) -> PlineViewData {
 
 /// A sheet from a seed: sound, or damaged in one or more of its fields.
 pub fn sheet(generator: &mut Generator) -> Vec<u8> {
-    let outline = generator.outline();
+    let mut outline = generator.outline();
+    if generator.random.chance(10) {
+        // Under two vertices there is no box, and its line is another one.
+        outline.truncate(3 * generator.random.below(2));
+    }
     let views = match generator.random.below(60) {
         0 => 256,
         1 => 257,

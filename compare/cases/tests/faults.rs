@@ -1,6 +1,7 @@
 //! The comparison finds faults: the oracle is spoilt in one place at a time, and each time the comparison must say so.
 
 use cases::compare::compare_calls;
+use cases::former::former_box_line;
 use cases::report::Report;
 use cases::sheets::compare_sheets;
 use cases::splits::compare_splits;
@@ -442,6 +443,19 @@ fn each_fault_in_rows_of_splits_is_found() {
     }
 }
 
+/// A sheet's text with another box line, where it has one.
+fn with_box_line(bytes: &[u8], change: impl Fn(&str) -> String) -> Vec<u8> {
+    let text = String::from_utf8(sheet_text(bytes)).unwrap();
+    let lines = text.lines().map(|line| {
+        if line.starts_with("box ") {
+            change(line) + "\n"
+        } else {
+            format!("{line}\n")
+        }
+    });
+    lines.collect::<String>().into_bytes()
+}
+
 #[test]
 fn each_sheet_fault_is_found() {
     type Program = fn(&[u8]) -> Vec<u8>;
@@ -498,7 +512,32 @@ fn each_sheet_fault_is_found() {
         Some(v) if u16::from_le_bytes([v[0], v[1]]) > 1024 => b"refused 11\n".to_vec(),
         _ => sheet_text(bytes),
     };
+    let word_missing_after_none: Program =
+        |bytes| with_box_line(bytes, |line| line.replace("none retired", "none"));
+    let word_missing_after_numbers: Program = |bytes| {
+        with_box_line(bytes, |line| match line {
+            "box none retired" => line.to_string(),
+            _ => line.replace(" retired", ""),
+        })
+    };
+    let word_without_the_bit: Program = |bytes| {
+        with_box_line(bytes, |line| match line.strip_suffix(" retired") {
+            Some(_) => line.to_string(),
+            None => format!("{line} retired"),
+        })
+    };
+    // The word is right, so that only the numbers can tell.
+    let former_box: Program = |bytes| {
+        with_box_line(bytes, |line| match line.strip_suffix(" retired") {
+            None | Some("box none") => line.to_string(),
+            Some(_) => former_box_line(bytes) + " retired",
+        })
+    };
     for (name, program) in [
+        ("no word after box none", word_missing_after_none),
+        ("no word after numbers", word_missing_after_numbers),
+        ("the word without the bit", word_without_the_bit),
+        ("the former box", former_box),
         ("the old vertex limit", old_vertex_limit),
         ("views cut across the gap", cut_across_the_gap),
         ("reserved bytes ignored", reserved_ignored),
