@@ -130,13 +130,14 @@ fn lengths() {
 #[test]
 fn flags_and_directions() {
     // Closed, the view of the whole square is cut; open, it is held, as it goes over the side that is not there.
-    for (flags, closed, lines) in [
-        (0, "open", 3),
-        (1, "closed", 9),
-        (2, "open", 3),
-        (3, "closed", 9),
+    let corners = "0000000000000000 0000000000000000 4008000000000000 4000000000000000";
+    for (flags, closed, word, lines) in [
+        (0, "open", "", 3),
+        (1, "closed", "", 9),
+        (2, "open", " retired", 3),
+        (3, "closed", " retired", 9),
     ] {
-        let head = format!("outline 4 1 {closed}\nbox ");
+        let head = format!("outline 4 1 {closed}\nbox {corners}{word}\nview 0 7 ");
         begins("flags", &square_sheet(flags, |_| {}), &head, lines);
         begins(
             "inverted",
@@ -145,13 +146,66 @@ fn flags_and_directions() {
             lines,
         );
     }
-    for flags in [4, 8, 0x100, 0x8000, 0xffff] {
+    for flags in [4, 5, 6, 7, 8, 0x100, 0x200, 0x8000, 0xffff] {
         prints(
             "an unknown flag",
             &square_sheet(flags, |_| {}),
             "refused 11\n",
         );
     }
+}
+
+#[test]
+fn the_retired_flag() {
+    // A circle of two half circles. Their chord is tilted, so the box that bit 1 once asked for would be larger.
+    let circle = [0.0, 0.0, 1.0, 3.0, 4.0, 1.0];
+    for (flags, vertices, text) in [
+        (2, 0, "outline 0 0 open\nbox none retired\n"),
+        (3, 0, "outline 0 0 closed\nbox none retired\n"),
+        (2, 1, "outline 1 0 open\nbox none retired\n"),
+        (3, 1, "outline 1 0 closed\nbox none retired\n"),
+        (
+            2,
+            2,
+            "outline 2 0 open\nbox 0000000000000000 bfe0000000000000 4010000000000000 4010000000000000 retired\n",
+        ),
+        (
+            3,
+            2,
+            "outline 2 0 closed\nbox bff0000000000000 bfe0000000000000 4010000000000000 4012000000000000 retired\n",
+        ),
+        (4, 0, "refused 11\n"),
+        (4, 1, "refused 11\n"),
+        (4, 2, "refused 11\n"),
+    ] {
+        prints(
+            &format!("flags {flags}, vertices {vertices}"),
+            &sheet_of(&circle[..3 * vertices], flags, &[]),
+            text,
+        );
+    }
+
+    // Views follow as they do without the bit, up to the largest sheet.
+    prints(
+        "one vertex and a view",
+        &sheet_of(&SQUARE[..3], 2, &[whole_view(&SQUARE, 0)]),
+        "outline 1 1 open\nbox none retired\nview 0 1 hold 0\n",
+    );
+    let mut bytes = largest_sheet();
+    let clear = String::from_utf8(sheet_text(&bytes)).unwrap();
+    let (head, views) = clear.split_at(clear.find("\nview").unwrap());
+    bytes[2] |= 2;
+    let text = format!("{head} retired{views}");
+    begins("the largest", &bytes, &text, 2 + 256 * 2003);
+
+    // A refused sheet has no box line.
+    let mut bytes = square_sheet(3, |_| {});
+    bytes[16..24].copy_from_slice(&f64::NAN.to_le_bytes());
+    prints("a number", &bytes, "refused 1\n");
+    bytes[RECORD + 60] = 1;
+    prints("a number and a record", &bytes, "refused 12\n");
+    bytes.push(0);
+    prints("a number, a record and the length", &bytes, "refused 11\n");
 }
 
 #[test]

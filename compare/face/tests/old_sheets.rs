@@ -4,8 +4,9 @@
 //! `cases/old/sheets` has one after the other, each behind its length (4 bytes, little-endian). `cases/old/texts` has a
 //! line for each: the length of its text, the text's 64-bit FNV-1a hash, and its first line. The oracle printed them
 //! under the old limit, and so did the program. Nothing makes them anew: where a text gets a field more, take that out before it
-//! is held to its line.
+//! is held to its line, as `as_then` does for flag bit 1.
 
+use cases::former::former_box_line;
 use cases::repository;
 use cases::sheets::{printed, sheet_program};
 use oracle::sheet::sheet_text;
@@ -38,19 +39,50 @@ fn told(text: &[u8]) -> String {
     format!("{} {hash:016x} {}", text.len(), first.escape_ascii())
 }
 
+/// Whether flag bit 1 is set.
+fn has_bit_1(bytes: &[u8]) -> bool {
+    bytes.get(2).is_some_and(|flags| flags & 2 != 0)
+}
+
+/// A text as it was before flag bit 1 was retired: without the word, and where there is a box, with the one that the bit
+/// asked for then.
+fn as_then(bytes: &[u8], text: &str) -> String {
+    let [outline, line, views] = text.splitn(3, '\n').collect::<Vec<_>>()[..] else {
+        // A refused sheet has one line.
+        return text.to_string();
+    };
+    let without_word = line.strip_suffix(" retired");
+    assert_eq!(without_word.is_some(), has_bit_1(bytes), "{line}");
+    let line = match without_word {
+        None => line.to_string(),
+        Some("box none") => "box none".to_string(),
+        Some(_) => former_box_line(bytes),
+    };
+    format!("{outline}\n{line}\n{views}")
+}
+
 #[test]
 fn old_sheets_read_the_same() {
-    let program = sheet_program().unwrap();
     let texts = String::from_utf8(stored("texts")).unwrap();
     let (sheets, texts) = (sheets(), texts.lines().collect::<Vec<_>>());
     assert_eq!((sheets.len(), texts.len()), (204, 204));
+    // Flag bit 1 with a box, with none, and on a refused sheet.
+    let mut with_bit_1 = [0; 3];
     for (k, (bytes, line)) in sheets.iter().zip(&texts).enumerate() {
         let vertices = bytes.get(4..6).map(|v| u16::from_le_bytes([v[0], v[1]]));
         assert!(vertices.is_none_or(|count| count <= 1024), "sheet {k}");
-        assert_eq!(told(&sheet_text(bytes)), *line, "the oracle: sheet {k}");
-        let text = printed(&program, bytes);
-        assert_eq!(told(&text), *line, "the program: sheet {k}");
+        let text = String::from_utf8(sheet_text(bytes)).unwrap();
+        assert_eq!(told(as_then(bytes, &text).as_bytes()), *line, "sheet {k}");
+        if has_bit_1(bytes) {
+            let kind = match text.lines().nth(1) {
+                Some("box none retired") => 1,
+                Some(_) => 0,
+                None => 2,
+            };
+            with_bit_1[kind] += 1;
+        }
     }
+    assert_eq!(with_bit_1, [81, 1, 23]);
     // Both ends of the old range, and each refusal.
     let first: Vec<&str> = texts
         .iter()
@@ -64,5 +96,13 @@ fn old_sheets_read_the_same() {
         "refused 12",
     ] {
         assert!(first.contains(&line), "{line}");
+    }
+}
+
+#[test]
+fn the_program_reads_them_as_the_oracle_does() {
+    let program = sheet_program().unwrap();
+    for (k, bytes) in sheets().iter().enumerate() {
+        assert!(printed(&program, bytes) == sheet_text(bytes), "sheet {k}");
     }
 }
