@@ -1,10 +1,10 @@
-//! For tests: the box line that flag bit 1 of a sheet asked for, before it was retired.
+//! For tests: the former box, the published text's other one, for which flag bit 1 of a sheet asked before it was retired.
 
 use cavalier_contours::AABB;
 use cavalier_contours::polyline::{PlineVertex, seg_fast_approx_bounding_box};
 
-/// The line without its line feed, of a sheet that is read and has two vertices or more. Of two equal edges the earlier
-/// segment's counts.
+/// The box line that was printed with that bit set, without its line feed, of a sheet that is read and has two vertices or
+/// more. Of two equal edges the earlier segment's counts.
 pub fn former_box_line(sheet: &[u8]) -> String {
     let closed = sheet[2] & 1 != 0;
     let count = usize::from(u16::from_le_bytes([sheet[4], sheet[5]]));
