@@ -1,6 +1,7 @@
 #!/bin/sh
 # Holds docs/PROMISES.md to the crates: each quoted line stands in the file that is named above it, each file and each wrong answer that is
-# named is there, and two or more are named for each call. And the texts that README and docs/SHEET.md show are those that are stored.
+# named is there, and two or more are named for each call. The texts that README and docs/SHEET.md show are those that are stored, and so
+# is the number of replayed cases. And nothing speaks of the box that left the library but what says so.
 set -eu
 cd "$(dirname "$0")/../.."
 page=docs/PROMISES.md
@@ -30,6 +31,17 @@ wrong=$(
     for one in $named; do
         [ ! -d "crates/${one%/*}" ] || grep -qE "^# ${one#*/}: " "crates/${one%/*}"/must-fail/*.edit 2>/dev/null ||
             echo "$page names the wrong answer $one, which no edit has"
+    done
+    cases=$(wc -l <crates/replay/stdout | sed 's/ //g; s/...$/,&/')
+    for one in README.md "$page"; do grep -qF " $cases " "$one" || echo "$one does not say that replay has $cases cases"; done
+    # the published text has that box; stored sheets and texts may ask for it
+    grep -rliE 'fast[-_ ]?(approx|box)|box[-_ ]fast' --exclude-dir=target --exclude-dir=.git . | while read -r file; do
+        case $file in
+        ./docs/notes/M-109.md | ./docs/DIFFERENCES.md | ./tests/docs/run.sh) ;;
+        ./examples/make_sheet.py | ./tests/tools/cases/make_sheet.txt) ;;
+        ./compare/published/text/polyline/pline_seg.rs | ./compare/cases/src/former.rs) ;;
+        *) echo "$file speaks of the fast box" ;;
+        esac
     done
     # of each call in demand 2's tables two or more are named: a row's last column has a group for each, parted by ;
     awk -F'|' '
