@@ -37,11 +37,11 @@ headerOf b =
 abbrev pub closed : Header → Bool
 closed h = eqb (h .flags % 2) 1
 
--- "Stored sheets with flag bit 1 are still read"; "bit 1 stays known"
+-- "Stored sheets with flag bit 1 are still read"
 abbrev pub retired : Header → Bool
 retired h = eqb (h .flags / 2 % 2) 1
 
--- "11 still covers unknown flags": those beyond bits 0 and 1
+-- "11 still covers unknown flags and bit 1 stays known": from here on flags have a bit beyond bits 0 and 1
 abbrev pub unknownFlags : ℕ
 unknownFlags = 4
 

@@ -60,7 +60,7 @@ pub(crate) fn is_closed(h: Header) -> bool
     h.flags % 2 == 1
 }
 
-// Whether the box line ends with the word for a stored sheet's old bit.
+// Whether a stored sheet has the retired flag.
 pub(crate) fn is_retired(h: Header) -> bool
     ensures { λ r. ⌜ r ≡ spec.retired h ⌝ }
 {
