@@ -2,17 +2,17 @@
 use mathlib.Core.Path.{_≡_, refl, sym, ap, ap₂, fun-ext, _∙_}
 use Prim.Native.Nat.{ℕ, zero, suc, _+_, _*_, _/_, _%_, _≤_}
 use native.Mathlib.Omega.{arith}
-use mathlib.Core.Bool.{Bool, true, false, cond, _&&_}
+use mathlib.Core.Bool.{Bool, true, false, cond}
 use mathlib.Core.List.{List, _∷_, _++_}
-use lib.ListN.{getD, take, drop, length}
-use lib.Dec.{ltb, leb, eqb}
+use lib.ListN.{getD, take, drop}
+use lib.Dec.{ltb, eqb}
 use lib.Ieee.{Float, binary64, ofBits}
 use borrow.Author.Tests.{ltb-true, ltb-false, lt-ltb, le-ltb, eq-eqb}
 use Rattle.real.specs.Refusal.{badNumber, badSheet, badRecord}
 use Rattle.real.specs.Reply.{given, check}
 use Rattle.plane.specs.Grade.{double}
 use Rattle.plane.specs.Vertex.{vertexAt}
-use Rattle.plane.specs.Range.{mostVertices, vertexOk}
+use Rattle.plane.specs.Range.{vertexOk}
 use Rattle.plane.specs.declared.pline_vertex.PlineVertex.{PlineVertex}
 use Rattle.lists.specs.Plain.{tab}
 use Rattle.view.specs.Outline.{all}
@@ -20,7 +20,7 @@ use Rattle.record.specs.Layout.{recordSize}
 use Rattle.record.specs.Bytes.{le16, le32, le64, floatAt}
 use Rattle.record.specs.Record.{fieldsOk, recordOf}
 use Rattle.text.specs.Ascii.{ascii}
-use Rattle.job.specs.Header.{mostViews, headerSize, vertexSize, unknownFlags, headerOf, closed, retired, headerUnder, headerOk}
+use Rattle.job.specs.Header.{headerSize, vertexSize, unknownFlags, headerOf, closed, retired, headerUnder, headerOk}
 use Rattle.job.specs.Outline.{vertexIn, numbersIn}
 use Rattle.job.specs.Extent.{boxTo, lastSegment}
 use Rattle.job.specs.Sheet.{vertices, views, recordAt, recordsOf, sheetOf}
@@ -73,29 +73,26 @@ module _ (v w x y : ℕ) (rest : List ℕ) where
   unfolding le16
   records k = ap (take recordSize) (past (headerSize + vertexSize * vertices a + recordSize * k) (omega arith))
 
+  header : ltb (le16 a 2) unknownFlags ≡ ltb (le16 b 2) unknownFlags → headerOk a ≡ headerOk b
+  unfolding headerOk headerUnder le16 le32
+  header known = simp known
+
   -- a sheet's text by what it reads of its bytes
   abbrev text : Bool → Bool → List ℕ → (ℕ → PlineVertex) → (ℕ → List Float) → (ℕ → List ℕ) → List ℕ
-  text known shut end vertex numbers record-at =
-      let h = headerOf a in
+  text good shut end vertex numbers record-at =
+      let n = vertices a in
       answerText
-      (check
-      (eqb (h .version) 1
-      && (known
-      && (leb (h .vertices) mostVertices
-      && (leb (h .views) mostViews
-      && (eqb (h .«vertex_offset») headerSize
-      && (eqb (h .«view_offset») (headerSize + vertexSize * h .vertices)
-      && eqb (length a) (headerSize + vertexSize * h .vertices + recordSize * h .views)))))))
-      badSheet
-      (check (all (λ k. fieldsOk (record-at k)) (h .views)) badRecord
-      (check (all (λ k. vertexOk double (vertex k)) (h .vertices)) badNumber
-      (given (outlineLine (h .vertices) (h .views) shut
-      ++ (cond (ltb (h .vertices) 2) noBoxWords (boxWords (boxTo vertex (h .vertices) (lastSegment shut (h .vertices)))) ++ end)
-      ++ numbered (viewText shut (numbers (3 * h .vertices))) 0 (tab (λ k. recordOf (record-at k)) (h .views)))))))
+      (check good badSheet
+      (check (all (λ k. fieldsOk (record-at k)) (views a)) badRecord
+      (check (all (λ k. vertexOk double (vertex k)) n) badNumber
+      (given
+      (outlineLine n (views a) shut
+      ++ (cond (ltb n 2) noBoxWords (boxWords (boxTo vertex n (lastSegment shut n))) ++ end)
+      ++ numbered (viewText shut (numbers (3 * n))) 0 (tab (λ k. recordOf (record-at k)) (views a)))))))
 
   same : (end : List ℕ) → ltb (le16 a 2) unknownFlags ≡ ltb (le16 b 2) unknownFlags → closed (headerOf a) ≡ closed (headerOf b) → textEnding end a ≡ textEnding end b
-  unfolding textEnding sheetOf headerOk headerUnder recordsOf le16 le32
-  same end known shut = λ i. text (known i) (shut i) end (fun-ext vertex i) (fun-ext numbers i) (fun-ext records i)
+  unfolding textEnding sheetOf recordsOf le16
+  same end known shut = λ i. text (header known i) (shut i) end (fun-ext vertex i) (fun-ext numbers i) (fun-ext records i)
 
 -- of the flags n, and n + 2 in their place: the bit is read, closed stays closed, and no flag becomes known or unknown
 module _ (n : ℕ) (bit : n / 2 % 2 ≡ 0) where
