@@ -32,3 +32,13 @@ pub fn former_box_line(sheet: &[u8]) -> String {
         [edges.min_x, edges.min_y, edges.max_x, edges.max_y].map(f64::to_bits);
     format!("box {left:016x} {low:016x} {right:016x} {high:016x}")
 }
+
+#[test]
+fn the_former_box_is_larger() {
+    // A half circle from (0, 0) to (3, 4): (0, -1.5) to (5, 4), where the true box is (0, -0.5) to (4, 4).
+    let sheet = crate::sheets::sheet_of(&[0.0, 0.0, 1.0, 3.0, 4.0, 0.0], 2, &[]);
+    assert_eq!(
+        former_box_line(&sheet),
+        "box 0000000000000000 bff8000000000000 4014000000000000 4010000000000000"
+    );
+}
