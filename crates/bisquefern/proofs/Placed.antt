@@ -23,7 +23,7 @@ use Rattle.view.specs.Answers.{reverseOf, trimOf}
 use Rattle.view.specs.Create.{createOf, newStartOf}
 use Rattle.view.specs.declared.view_data.PlineViewData.{PlineViewData}
 use Rattle.view.proofs.Checks.{Checked, evened, even-rest}
-use Rattle.view.proofs.Made.{create-fine, new-start-fine}
+use Rattle.view.proofs.Made.{create-fresh, new-start-fresh}
 use Rattle.record.specs.Record.{recordBytes}
 use Rattle.lent.specs.Lent.{Answered}
 use Rattle.lent.specs.Values.{RecordAnswered}
@@ -75,10 +75,10 @@ module _ (s : List Float) (d d′ : PlineViewData) where
 
 module _ (s : List Float) (p : Vector2) (eps : Float) (d : PlineViewData) where
   pub create-placed : (start at : ℕ) (first : PlineVertex) (traverse : ℕ) → given d ≡ createOf double (double .line) s start p at first traverse eps → Placed s d
-  create-placed start at first traverse e = create-fine double double-sound (double .line) s p eps d start at first traverse (sym e) .clear .placed
+  create-placed start at first traverse e = create-fresh double double-sound (double .line) s p eps d start at first traverse (sym e) .fine .clear .placed
 
   pub new-start-placed : (closed : Bool) (start : ℕ) → given d ≡ newStartOf double (double .line) s closed p start eps → Placed s d
-  new-start-placed closed start e = new-start-fine double double-sound (double .line) s p eps d closed start (sym e) .clear .placed
+  new-start-placed closed start e = new-start-fresh double double-sound (double .line) s p eps d closed start (sym e) .fine .clear .placed
 
 -- so such a record is written as its 64 bytes
 module _ (s : List Float) {before after : List ℕ} {n : ℕ} {y : Reply PlineViewData} where

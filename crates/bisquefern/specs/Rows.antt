@@ -12,6 +12,8 @@ use Rattle.view.specs.Record.{listed}
 use Rattle.view.specs.Answers.{reverseOf, trimOf}
 use Rattle.view.specs.Rows.{row}
 use Rattle.view.specs.declared.view_data.PlineViewData.{PlineViewData}
+use Rattle.record.specs.Bytes.{le32}
+use Rattle.record.specs.Layout.{cutNumberAt}
 use Rattle.record.specs.Record.{recordFrom, recordBytes}
 use Rattle.lent.specs.Lent.{both}
 use Rattle.lent.specs.Values.{listReply}
@@ -36,6 +38,10 @@ module _ (s : List Float) where
   bytesRow [] b = b
   bytesRow (t ∷ ts) b = bytesRow ts (bytesAfter b (stepReply t b))
 
+  -- "no row of steps changes the number": the last four bytes stay what they are
+  abbrev pub NumberStays : List ℕ → Type 0
+  NumberStays b = (ts : List Step) → le32 (bytesRow ts b) cutNumberAt ≡ le32 b cutNumberAt
+
   -- "Apply any row of reversals and trims. Each resulting record lists what the same steps do to the plain list." d is the record that bytes b are
   pub record BytesDemand3 (b : List ℕ) (d : PlineViewData) : Type 0 where
     -- the bytes at the end are the record at the end of the row over records, of which `Demand3` says the rest
@@ -43,3 +49,4 @@ module _ (s : List Float) where
     -- and the reply that `bf_view_list` promises of them is the plain list at the end, and its count
     pub lists : (ts : List Step) → let l = rowList neg (double .zero) ts (listed double s d) in
         ofRecord (bytesRow ts b) (listReply s) ≡ given (both (length l ∷ []) (flat l))
+    pub number : NumberStays b

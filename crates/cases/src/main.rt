@@ -50,6 +50,7 @@ fn short_view() -> PlineViewData {
         updated_end_bulge: 0.0,
         end_point: Vector2 { x: 0.0, y: 0.0 },
         inverted_direction: false,
+        cut_number: 0,
     }
 }
 

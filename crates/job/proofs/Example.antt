@@ -1,4 +1,4 @@
--- Document 01's example and the two retired sheets, computed from the definitions.
+-- Document 01's example, its cut number at both ends, and the two retired sheets, computed from the definitions.
 use mathlib.Core.Path.{refl}
 use lib.Ieee.{ofBits, toBits, neg, add, sub, mul, div, lt, le, eq}
 use Rattle.real.specs.Root.{absOf, rootOf}
@@ -20,11 +20,11 @@ use Rattle.record.specs.Record.{fieldsOk}
 use Rattle.job.specs.Outline.{numbersIn}
 use Rattle.job.specs.Extent.{boxTo}
 use Rattle.job.specs.Sheet.{recordsOf, sheetOf}
-use Rattle.job.specs.Lines.{refusedLine, outlineLine, floats, boxWords, viewHead, viewLine}
+use Rattle.job.specs.Lines.{refusedLine, outlineLine, floats, boxWords, viewHead, numberField, viewLine}
 use Rattle.job.specs.Views.{markText, verdictText, viewText}
 use Rattle.job.specs.Parts.{boxLine, wholeText, sheetText}
 use Rattle.job.specs.Example.{Examples}
 
 pub examples : Examples
-unfolding ofBits toBits neg add sub mul div lt le eq absOf rootOf wholeOutline coordOk bulgeOk pointOk vertexOk radiusOf centerOf arcClosest closestOf startRadius endRadius arcBoxBy arcBox boxOf tab forward vertexAt viewList all numbersOk recordOk onSegmentOf onOutline bulgesMatch endVerdict placedVerdict countedVerdict validateOf acrossGap markOf le16 le32 le64 floatAt hex decimals decimal float row numbered headerUnder headerOk fieldsOk numbersIn boxTo recordsOf sheetOf refusedLine outlineLine floats boxWords viewHead viewLine markText verdictText viewText boxLine wholeText sheetText
-examples = record { example = refl; retired = refl; empty = refl }
+unfolding ofBits toBits neg add sub mul div lt le eq absOf rootOf wholeOutline coordOk bulgeOk pointOk vertexOk radiusOf centerOf arcClosest closestOf startRadius endRadius arcBoxBy arcBox boxOf tab forward vertexAt viewList all numbersOk recordOk onSegmentOf onOutline bulgesMatch endVerdict placedVerdict countedVerdict validateOf acrossGap markOf le16 le32 le64 floatAt hex decimals decimal float row numbered headerUnder headerOk fieldsOk numbersIn boxTo recordsOf sheetOf refusedLine outlineLine floats boxWords viewHead numberField viewLine markText verdictText viewText boxLine wholeText sheetText
+examples = record { example = refl; first = refl; last = refl; retired = refl; empty = refl }

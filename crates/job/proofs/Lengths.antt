@@ -1,4 +1,4 @@
--- The lines of a sheet's text are short: a number has at most four digits, a float 17 bytes with its space.
+-- The lines of a sheet's text are short: a cut number has at most 20 digits, any other number at most four, a float 17 bytes with its space.
 use mathlib.Core.Bool.{Bool, true, false}
 use mathlib.Core.List.{List, _++_}
 use Prim.Native.Nat.{ℕ, zero, suc, _+_, _*_, _≤_, _<_}
@@ -9,10 +9,10 @@ use Rattle.seg.specs.declared.bounds.Bounds.{Bounds}
 use Rattle.plane.specs.Range.{mostVertices}
 use Rattle.view.specs.Validation.{MarkCase, cut, hold}
 use Rattle.text.specs.Digits.{decimal}
-use Rattle.text.proofs.Digits.{decimal-length, float-length}
+use Rattle.text.proofs.Digits.{decimal-length, decimal-most, float-length}
 use Rattle.job.specs.Rows.{row, rowBytes, joined, rows}
 use Rattle.job.specs.Views.{partBytes}
-use Rattle.job.specs.Lines.{refusedLine, closedWord, outlineLine, floats, boxWords, noBoxWords, boxEnd, viewHead, markWord, viewLine}
+use Rattle.job.specs.Lines.{refusedLine, closedWord, outlineLine, floats, boxWords, noBoxWords, boxEnd, viewHead, markWord, numberField, viewLine}
 
 four : (n : ℕ) → n < 10000 → length (decimal n) ≤ 4
 four n h = decimal-length 3 n h (omega arith)
@@ -51,9 +51,9 @@ mark-length : (m : MarkCase) → length (markWord m) ≤ 6
 mark-length cut = omega arith
 mark-length hold = omega arith
 
-pub view-length : (k n : ℕ) (m : MarkCase) (c : ℕ) → k < 10000 → n < 10000 → c < 10000 → length (viewLine k n m c) ≤ 25
-unfolding viewLine
-view-length k n m c h i j = simp length-append (omega (arith, head-length k h, four n i, mark-length m, four c j))
+pub view-length : (k n : ℕ) (m : MarkCase) (c number : ℕ) → k < 10000 → n < 10000 → c < 10000 → length (viewLine k n m c number) ≤ 46
+unfolding viewLine numberField
+view-length k n m c number h i j = simp length-append (omega (arith, head-length k h, four n i, mark-length m, four c j, decimal-most number))
 
 pub rows-length : (l : List Float) (n : ℕ) → n ≤ 10000 → length (rows l n) ≤ rowBytes * n
 unfolding rows joined row
@@ -62,5 +62,5 @@ rows-length l (suc n) h =
     let r = rows-length l n (omega arith) in
     simp (length-append, float-length) (omega (arith, r, four n (omega arith)))
 
-pub cut-length : (k n c : ℕ) (l : List Float) → k < 10000 → n < 10000 → c ≤ mostVertices + 2 → length (viewLine k n cut c ++ rows l c) ≤ partBytes
-cut-length k n c l h i j = simp length-append (omega (arith, view-length k n cut c h i (omega arith), rows-length l c (omega arith)))
+pub cut-length : (k n c number : ℕ) (l : List Float) → k < 10000 → n < 10000 → c ≤ mostVertices + 2 → length (viewLine k n cut c number ++ rows l c) ≤ partBytes
+cut-length k n c number l h i j = simp length-append (omega (arith, view-length k n cut c number h i (omega arith), rows-length l c (omega arith)))

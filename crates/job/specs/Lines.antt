@@ -1,4 +1,5 @@
--- The lines of a sheet's text. "Fields: V, W, open or closed; least x, y, greatest x, y ..; view number, verdict, cut or hold, count"
+-- The lines of a sheet's text. "Fields: V, W, open or closed; least x, y, greatest x, y ..; view number, verdict, cut or hold, count",
+-- and the cut number.
 use Prim.Native.Nat.{ℕ}
 use mathlib.Core.Bool.{Bool, cond}
 use mathlib.Core.List.{List, _++_}
@@ -39,5 +40,9 @@ abbrev pub markWord : MarkCase → List ℕ
 markWord cut = ascii " cut "
 markWord hold = ascii " hold "
 
-unfoldable pub viewLine : ℕ → ℕ → MarkCase → ℕ → List ℕ
-viewLine k verdict mark count = viewHead k ++ decimal verdict ++ markWord mark ++ decimal count ++ ascii "\n"
+-- "The view line gains [the cut number] as a last field"
+unfoldable pub numberField : ℕ → List ℕ
+numberField n = ascii " " ++ decimal n ++ ascii "\n"
+
+unfoldable pub viewLine : ℕ → ℕ → MarkCase → ℕ → ℕ → List ℕ
+viewLine k verdict mark count number = viewHead k ++ decimal verdict ++ markWord mark ++ decimal count ++ numberField number

@@ -16,12 +16,12 @@ use Rattle.job.specs.Rows.{row, rowBytes, numbered}
 use Rattle.text.specs.Wrote.{Piece}
 use Rattle.job.specs.Lines.{refusedLine, viewHead, viewLine}
 
--- "view number, verdict, cut or hold, count; position, x, y, bulge"; "A hold view prints count 0 and no vertices."
+-- "view number, verdict, cut or hold, count; position, x, y, bulge"; "A hold view prints count 0 and no vertices.", and the record's cut number like any
 unfoldable pub markText : List Float → PlineViewData → ℕ → ℕ → MarkCase → List ℕ
-markText s d k number cut = viewLine k number cut (vertices d) ++ numbered row 0 (listed double s d)
-markText s d k number hold = viewLine k number hold 0
+markText s d k number cut = viewLine k number cut (vertices d) (d .«cut_number») ++ numbered row 0 (listed double s d)
+markText s d k number hold = viewLine k number hold 0 (d .«cut_number»)
 
--- "A refused view prints `view k refused N`"
+-- "A refused view prints `view k refused N`"; with a cut number too "a refused view's line is unchanged"
 unfoldable pub verdictText : Bool → List Float → PlineViewData → ℕ → Reply Verdict → List ℕ
 verdictText closed s d k (refused n) = viewHead k ++ refusedLine n
 verdictText closed s d k (given v) = markText s d k (v .number) (markOf closed s d v)

@@ -101,19 +101,20 @@ fn put_mark(out: &mut [u8], at: usize, mark: Mark) -> usize
     }
 }
 
-// The line of view k, with its verdict, its mark and its count.
+// The line of view k, with its verdict, its mark, its count and its cut number.
 pub(crate) fn put_view_line(
     out: &mut [u8],
     k: usize,
-    number: usize,
+    verdict: usize,
     mark: Mark,
     count: usize,
+    cut_number: u32,
 ) -> usize
-    ensures { λ r. ⌜ Piece (now (out .entry)) 0 (spec.viewLine k number (markCase mark) count) (now (out .exit)) r ⌝ }
+    ensures { λ r. ⌜ Piece (now (out .entry)) 0 (spec.viewLine k verdict (markCase mark) count «cut_number») (now (out .exit)) r ⌝ }
 {
     let a = put_head(out, k);
-    let b = put_decimal(out, a, number as u64);
+    let b = put_decimal(out, a, verdict as u64);
     let c = put_mark(out, b, mark);
     let d = put_decimal(out, c, count as u64);
-    put_byte(out, d, b'\n')
+    put_worded(out, d, b" ", cut_number as usize, b'\n')
 }

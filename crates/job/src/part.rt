@@ -84,7 +84,7 @@ fn put_cut(
 {
     d.list(outline, list);
     let count = d.end_index_offset + 2;
-    let e = put_view_line(out, k, number, Mark::Cut, count);
+    let e = put_view_line(out, k, number, Mark::Cut, count, d.cut_number);
     put_rows(out, e, list, count)
 }
 
@@ -105,7 +105,7 @@ fn put_marked(
     let mark = verdict.mark(d, outline, closed);
     match mark {
         Mark::Cut => put_cut(outline, d, k, number, list, out),
-        Mark::Hold => put_view_line(out, k, number, Mark::Hold, 0),
+        Mark::Hold => put_view_line(out, k, number, Mark::Hold, 0, d.cut_number),
     }
 }
 

@@ -10,17 +10,17 @@ use lib.Seq.{ext-getD, take-at}
 use lib.Dec.{T, ltb, leb, eqb}
 use lib.Ieee.{Float, binary64, fits, isNan, ofBits, toBits}
 use lib.Ieee.Bits.{ofBits-toBits, toBits-ofBits, toBits-lt}
-use borrow.Author.Tests.{ltb-true, lt-ltb, leb-true, le-leb, eqb-true}
+use borrow.Author.Tests.{ltb-true, lt-ltb, leb-true, le-leb, eqb-true, eq-eqb}
 use Rattle.real.specs.Refusal.{badIndex, badOffset, noRoom, badSheet, badRecord}
 use Rattle.real.specs.Reply.{Reply, given}
 use Rattle.lists.specs.Plain.{tab}
 use Rattle.view.specs.declared.view_data.PlineViewData.{PlineViewData}
 use Rattle.lists.proofs.Tab.{length-tab, getD-tab}
 use Rattle.record.specs.Bytes.{le16, le32, le64, floatAt, bytes4, bytes8, floatBytes}
-use Rattle.record.specs.Layout.{startAt, offsetAt, recordSize, wordLimit}
+use Rattle.record.specs.Layout.{startAt, offsetAt, directionAt, cutNumberAt, recordSize, wordLimit}
 use Rattle.record.specs.Record.{recordOf, fieldsOk, recordFrom, vertexBytes, pointBytes, placeBytes, directionOf, endBytes, recordBytes, recordTo, bufferBy, recordBuffer}
-use Rattle.record.specs.RoundTrip.{Taken, Fits, Plain}
-use Rattle.real.proofs.Replies.{check-given, same-given, and-both}
+use Rattle.record.specs.RoundTrip.{Taken, Fits, Bytes, Plain}
+use Rattle.real.proofs.Replies.{check-given, same-given}
 
 -- ---- written and read
 
@@ -96,6 +96,11 @@ buffer-given d before e = ap (λ (r : Reply ℕ). bufferBy r (recordBytes d) bef
 
 -- ---- there and back
 
+-- a record's last four bytes are its cut number
+pub number-there : (d : PlineViewData) → d .«cut_number» < wordLimit → le32 (recordBytes d) cutNumberAt ≡ d .«cut_number»
+unfolding le32 le16 recordBytes placeBytes vertexBytes pointBytes endBytes floatBytes bytes8 bytes4
+number-there d h = join4 (d .«cut_number») h
+
 module _ (d : PlineViewData) (f : Fits d) where
   module _ (start : d .«start_index» < wordLimit) (offset : d .«end_index_offset» < wordLimit) where
     record-there : recordOf (recordBytes d) ≡ d
@@ -113,6 +118,7 @@ module _ (d : PlineViewData) (f : Fits d) where
           float-back (p .x) (f .end-x),
           float-back (p .y) (f .end-y),
           turn (d .«inverted_direction»),
+          join4 (d .«cut_number») (f .number),
         )
 
     -- the bytes of a record with small numbers are read as that record
@@ -161,6 +167,11 @@ one-bit zero h = refl
 one-bit (suc zero) h = refl
 one-bit (suc (suc n)) h = absurd (omega arith)
 
+-- four bytes are a u32
+pub le32-lt : (b : List ℕ) → Bytes b → (i : ℕ) → le32 b i < wordLimit
+unfolding le32 le16
+le32-lt b h i = omega (arith, h i, h (i + 1), h (i + 2), h (i + 2 + 1))
+
 module _ (b : List ℕ) (p : Plain b) where
   abbrev at : ℕ → ℕ
   at i = getD b i 0
@@ -169,25 +180,19 @@ module _ (b : List ℕ) (p : Plain b) where
   unfolding le32 le16
   four-back i = digits (at i) (at (i + 1)) (at (i + 2)) (at (i + 2 + 1)) (p .bytes i) (p .bytes (i + 1)) (p .bytes (i + 2)) (p .bytes (i + 2 + 1))
 
-  le32-lt : (i : ℕ) → le32 b i < 4294967296
-  unfolding le32 le16
-  le32-lt i = omega (arith, p .bytes i, p .bytes (i + 1), p .bytes (i + 2), p .bytes (i + 2 + 1))
-
   le64-lt : (i : ℕ) → le64 b i < 2 ^ 64
   unfolding le64
-  le64-lt i = omega (arith, le32-lt i, le32-lt (i + 4))
+  le64-lt i = omega (arith, le32-lt b (p .bytes) i, le32-lt b (p .bytes) (i + 4))
 
   eight-back : (i : ℕ) → isNan (floatAt b i) ≡ false → floatBytes (floatAt b i) ≡ bytes4 (le32 b i) ++ bytes4 (le32 b (i + 4))
   unfolding floatBytes floatAt le64
   eight-back i n =
-      ap bytes8 (toBits-ofBits binary64 (le64 b i) (le64-lt i) (subst (λ (t : Bool). T (not t)) (sym n) tt)) ∙ split (le32 b i) (le32 b (i + 4)) (le32-lt i)
+      ap bytes8 (toBits-ofBits binary64 (le64 b i) (le64-lt i) (subst (λ (t : Bool). T (not t)) (sym n) tt)) ∙ split (le32 b i) (le32 b (i + 4)) (le32-lt b (p .bytes) i)
 
   record-back : length b ≡ recordSize → fieldsOk b ≡ true → recordBytes (recordOf b) ≡ b
   unfolding fieldsOk recordBytes placeBytes endBytes vertexBytes pointBytes tab
   record-back n ok =
-      let sound = and-both (leb (le32 b 56) 1) _ ok in
-      let way : directionOf (eqb (le32 b 56) 1) ≡ le32 b 56 = one-bit (le32 b 56) (leb-true _ _ (sound .0)) in
-      let none : 0 ≡ le32 b 60 = sym (eqb-true _ _ (sound .1)) in
+      let way : directionOf (eqb (le32 b 56) 1) ≡ le32 b 56 = one-bit (le32 b 56) (leb-true _ _ ok) in
       let whole : recordBytes (recordOf b) ≡ tab at 64 =
       simp (
         eight-back 8 (p .floats 0 (omega arith)),
@@ -197,7 +202,6 @@ module _ (b : List ℕ) (p : Plain b) where
         eight-back 40 (p .floats 4 (omega arith)),
         eight-back 48 (p .floats 5 (omega arith)),
         way,
-        ap bytes4 none,
         four-back 0,
         four-back 4,
         four-back 8,
@@ -217,6 +221,13 @@ module _ (b : List ℕ) (p : Plain b) where
       ) in
       whole ∙ ap (tab at) (sym n) ∙ ext-getD 0 (tab at (length b)) b (length-tab at (length b)) (λ i h. getD-tab at (length b) i 0 (subst (λ (m : ℕ). i < m) (length-tab at (length b)) h))
 
+  -- any 64 bytes with direction 0 or 1 are a record, whose bytes they are
+  pub round-trip : length b ≡ recordSize → le32 b directionAt ≤ 1 → (recordFrom b ≡ given (recordOf b)) × (recordBytes (recordOf b) ≡ b)
+  unfolding recordFrom fieldsOk
+  round-trip n way =
+      let ok : leb (le32 b directionAt) 1 ≡ true = le-leb _ _ way in
+      (simp (eq-eqb (length b) recordSize n, ok), record-back n ok)
+
   -- bytes that are read as a record are that record's bytes, and where there is room they are what writing it leaves in the buffer
   pub written-from : (d : PlineViewData) → recordFrom b ≡ given d → recordBytes d ≡ b
   written-from d e = let r = read b d e in ap recordBytes (sym (r .2)) ∙ record-back (r .0) (r .1)
@@ -225,5 +236,5 @@ module _ (b : List ℕ) (p : Plain b) where
       → (recordTo d (length before) ≡ given recordSize) × (recordBuffer d before ≡ b ++ drop recordSize before)
   written-back d before e room =
       let is = read b d e .2 in
-      let t = takes d (length before) (subst (λ (r : PlineViewData). Taken r (length before) recordSize) is (record { start = le32-lt startAt; offset = le32-lt offsetAt; room = room; count = refl })) in
+      let t = takes d (length before) (subst (λ (r : PlineViewData). Taken r (length before) recordSize) is (record { start = le32-lt b (p .bytes) startAt; offset = le32-lt b (p .bytes) offsetAt; room = room; count = refl })) in
       (t, buffer-given d before t ∙ ap (λ (l : List ℕ). l ++ drop recordSize before) (written-from d e))

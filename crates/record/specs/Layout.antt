@@ -1,5 +1,5 @@
 -- Where a record's fields begin: "start index u32, offset u32, updated start three f64, updated end bulge f64, end point two f64, direction u32 (0
--- forward, 1 inverted), reserved u32 zero."
+-- forward, 1 inverted)", and "The last four bytes of a sheet record become an unsigned cut number, 0 for none".
 use Prim.Native.Nat.{ℕ}
 
 abbrev pub startAt : ℕ
@@ -20,8 +20,8 @@ endAt = 40
 abbrev pub directionAt : ℕ
 directionAt = 56
 
-abbrev pub reservedAt : ℕ
-reservedAt = 60
+abbrev pub cutNumberAt : ℕ
+cutNumberAt = 60
 
 -- "records of 64 bytes"
 abbrev pub recordSize : ℕ

@@ -1,7 +1,7 @@
 -- A record of a sheet, both ways. "W records of 64 bytes: start index u32, offset u32, updated start three f64, updated end bulge f64, end point two f64,
--- direction u32 (0 forward, 1 inverted), reserved u32 zero."
+-- direction u32 (0 forward, 1 inverted)"; "The last four bytes of a sheet record become an unsigned cut number, 0 for none".
 use Prim.Native.Nat.{ℕ}
-use mathlib.Core.Bool.{Bool, cond, _&&_}
+use mathlib.Core.Bool.{Bool, cond}
 use mathlib.Core.List.{List, _++_}
 use lib.ListN.{length, drop}
 use lib.Dec.{ltb, leb, eqb}
@@ -11,7 +11,7 @@ use Rattle.plane.specs.declared.vector2.Vector2.{Vector2}
 use Rattle.plane.specs.declared.pline_vertex.PlineVertex.{PlineVertex}
 use Rattle.view.specs.declared.view_data.PlineViewData.{PlineViewData}
 use Rattle.record.specs.Bytes.{le32, floatAt, vertexFrom, pointFrom, bytes4, floatBytes}
-use Rattle.record.specs.Layout.{startAt, offsetAt, firstAt, endBulgeAt, endAt, directionAt, reservedAt, recordSize, wordLimit}
+use Rattle.record.specs.Layout.{startAt, offsetAt, firstAt, endBulgeAt, endAt, directionAt, cutNumberAt, recordSize, wordLimit}
 use Rattle.record.specs.declared.record.RecordAnswer.{RecordAnswer}
 use Rattle.record.specs.declared.record.RecordAnswer.the-variants as record-case
 use Rattle.record.specs.declared.record.BytesAnswer.{BytesAnswer}
@@ -19,9 +19,9 @@ use Rattle.record.specs.declared.record.BytesAnswer.the-variants as byte
 
 -- ---- read
 
--- what refusal 12 asks of a record's bytes: "direction not 0 or 1, or reserved bytes not 0" does not hold
+-- what refusal 12 asks of a record's bytes: "direction not 0 or 1" does not hold; of the last four bytes "12 no longer speaks"
 unfoldable pub fieldsOk : List ℕ → Bool
-fieldsOk b = leb (le32 b directionAt) 1 && eqb (le32 b reservedAt) 0
+fieldsOk b = leb (le32 b directionAt) 1
 
 abbrev pub recordOf : List ℕ → PlineViewData
 recordOf b =
@@ -32,6 +32,7 @@ recordOf b =
       «updated_end_bulge» = floatAt b endBulgeAt;
       «end_point» = pointFrom b endAt;
       «inverted_direction» = eqb (le32 b directionAt) 1;
+      «cut_number» = le32 b cutNumberAt;
     }
 
 abbrev pub recordReply : RecordAnswer → Reply PlineViewData
@@ -56,13 +57,13 @@ placeBytes start offset = bytes4 start ++ bytes4 offset
 abbrev pub directionOf : Bool → ℕ
 directionOf inverted = cond inverted 1 0
 
-unfoldable pub endBytes : Bool → List ℕ
-endBytes inverted = bytes4 (directionOf inverted) ++ bytes4 0
+unfoldable pub endBytes : Bool → ℕ → List ℕ
+endBytes inverted number = bytes4 (directionOf inverted) ++ bytes4 number
 
 unfoldable pub recordBytes : PlineViewData → List ℕ
 recordBytes d =
     placeBytes (d .«start_index») (d .«end_index_offset») ++ vertexBytes (d .«updated_start») ++ floatBytes (d .«updated_end_bulge»)
-    ++ pointBytes (d .«end_point») ++ endBytes (d .«inverted_direction»)
+    ++ pointBytes (d .«end_point») ++ endBytes (d .«inverted_direction») (d .«cut_number»)
 
 abbrev pub bytesReply : BytesAnswer → Reply ℕ
 bytesReply (bytes-case.Given n) = given n

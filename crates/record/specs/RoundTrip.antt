@@ -17,7 +17,7 @@ pub record Taken (d : PlineViewData) (m n : ℕ) : Type 0 where
   pub room : recordSize ≤ m
   pub count : n ≡ recordSize
 
--- a record whose floats are f64, as every record is that a program holds
+-- a record whose floats are f64 and whose cut number is a u32, as every record's are that a program holds
 pub record Fits (d : PlineViewData) : Type 0 where
   pub x : T (fits binary64 (d .«updated_start» .x))
   pub y : T (fits binary64 (d .«updated_start» .y))
@@ -25,8 +25,13 @@ pub record Fits (d : PlineViewData) : Type 0 where
   pub end-bulge : T (fits binary64 (d .«updated_end_bulge»))
   pub end-x : T (fits binary64 (d .«end_point» .x))
   pub end-y : T (fits binary64 (d .«end_point» .y))
+  pub number : d .«cut_number» < wordLimit
+
+-- bytes, as a program holds them
+abbrev pub Bytes : List ℕ → Type 0
+Bytes b = (i : ℕ) → getD b i 0 < 256
 
 -- bytes of which none of a record's six floats is a NaN: of the many patterns of a NaN only one would come back
 pub record Plain (b : List ℕ) : Type 0 where
-  pub bytes : (i : ℕ) → getD b i 0 < 256
+  pub bytes : Bytes b
   pub floats : (k : ℕ) → k < 6 → isNan (floatAt b (firstAt + 8 * k)) ≡ false

@@ -31,18 +31,18 @@ const END_AT: usize = 40;
 
 const DIRECTION_AT: usize = 56;
 
-const RESERVED_AT: usize = 60;
+const CUT_NUMBER_AT: usize = 60;
 
 pub const RECORD_BYTES: usize = 64;
 
 // No u32 reaches it.
 const WORD_LIMIT: usize = 0x1_0000_0000;
 
-// Whether the direction is 0 or 1 and the reserved bytes are 0.
+// Whether the direction is 0 or 1.
 pub fn record_is_sound(bytes: &[u8]) -> bool
     ensures { λ r. ⌜ r ≡ spec.fieldsOk (now (bytes .entry)) ⌝ }
 {
-    le32(bytes, DIRECTION_AT) <= 1 && le32(bytes, RESERVED_AT) == 0
+    le32(bytes, DIRECTION_AT) <= 1
 }
 
 // What a record's bytes say.
@@ -63,6 +63,7 @@ pub fn record_of(bytes: &[u8]) -> PlineViewData
             y: float_at(bytes, END_AT + 8),
         },
         inverted_direction: le32(bytes, DIRECTION_AT) == 1,
+        cut_number: le32(bytes, CUT_NUMBER_AT) as u32,
     }
 }
 
@@ -116,13 +117,13 @@ fn put_place(out: &mut [u8], at: usize, start: usize, offset: usize) -> usize
     put32(out, a, offset)
 }
 
-// The direction and the reserved bytes.
-fn put_end(out: &mut [u8], at: usize, inverted: bool) -> usize
+// The direction and the cut number.
+fn put_end(out: &mut [u8], at: usize, inverted: bool, cut_number: u32) -> usize
     requires { ⌜ at + 8 ≤ length (now out) ⌝ }
-    ensures { λ r. ⌜ (Wrote (now (out .entry)) at (spec.endBytes inverted) (now (out .exit)) r) × (r ≡ at + 8) ⌝ }
+    ensures { λ r. ⌜ (Wrote (now (out .entry)) at (spec.endBytes inverted «cut_number») (now (out .exit)) r) × (r ≡ at + 8) ⌝ }
 {
     let a = put32(out, at, direction(inverted));
-    put32(out, a, 0)
+    put32(out, a, cut_number as usize)
 }
 
 fn put_record(out: &mut [u8], d: PlineViewData) -> usize
@@ -135,7 +136,7 @@ fn put_record(out: &mut [u8], d: PlineViewData) -> usize
     let b = put_vertex(out, a, v);
     let c = put_pattern(out, b, d.updated_end_bulge);
     let e = put_point(out, c, p);
-    put_end(out, e, d.inverted_direction)
+    put_end(out, e, d.inverted_direction, d.cut_number)
 }
 
 pub enum BytesAnswer {

@@ -96,6 +96,10 @@ decimals-length (suc k) n = elim (decLt n 10) [
   | no p ↦ rw (more k n (omega arith), length-append) (let h = decimals-length k (n / 10) in omega arith)
 ]
 
+pub decimal-most : (n : ℕ) → length (decimal n) ≤ 20
+unfolding decimal
+decimal-most n = decimals-length 20 n
+
 pub decimal-length : (k n : ℕ) → n < 10 ^ suc k → k ≤ 19 → length (decimal n) ≤ suc k
 unfolding decimal
 decimal-length k n h l = rw (fewer k 19 n h l) (decimals-length (suc k) n)

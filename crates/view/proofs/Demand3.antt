@@ -25,6 +25,7 @@ use Rattle.view.specs.Rows.{after, step, row}
 use Rattle.view.specs.Demand3.{Unrefused, SameBits, Even, Lists, Kept, Demand3}
 use Rattle.view.specs.declared.view_data.PlineViewData.{PlineViewData}
 use Rattle.view.proofs.Checks.{Checked, checked, checked-rest, Evened, even-rest, vertex-in}
+use Rattle.view.proofs.CutNumber.{row-number}
 use Rattle.lists.proofs.Lists.{plain-steps}
 use Rattle.lists.proofs.Good.{InRange, Good, turn-good, trim-good}
 use Rattle.lists.proofs.Listing.{list-turn, list-trim, turn-twice, trim-after-turn, length-list}
@@ -150,7 +151,7 @@ module _ (g : Grade) (s : List Float) where
         trimmed = λ i j below within. let e = both i j (vertices d) below (rw (count d f) at within) in trims d f i j true e ∙ ap given (sym (trim-step d f i j true e));
         refusal = λ i j e. trims d f i j false (rw (count d f) at e);
         unchanged = λ i j e. trim-step d f i j false (rw (count d f) at e);
-        twice = ap (step g s turn) (turn-step d f) ∙ turn-step (turnedOf d) (turn-fine d f) ∙ ap dataOf (turn-twice (viewOf d));
+        twice = ap (step g s turn) (turn-step d f) ∙ turn-step (turnedOf d) (turn-fine d f) ∙ ap (dataOf (d .«cut_number»)) (turn-twice (viewOf d));
         mirrored = λ i j below within. mirror i j below (rw (count d f) at within);
       }
     where
@@ -162,7 +163,7 @@ module _ (g : Grade) (s : List Float) where
           let e₂ : vertices d - 1 - i ≡ j′ = omega arith in
           rw (count d f, e₁, e₂)
           (ap (step g s (trim i j)) (turn-step d f) ∙ trim-step (turnedOf d) (turn-fine d f) i j true (both i j (vertices (turnedOf d)) below (rw (turn-vertices d f) within))
-          ∙ ap dataOf (trim-after-turn (viewOf d) (g .zero) (srcOf s) (countOf s) i j below within)
+          ∙ ap (dataOf (d .«cut_number»)) (trim-after-turn (viewOf d) (g .zero) (srcOf s) (countOf s) i j below within)
           ∙ sym (ap (step g s turn) (trim-step d f i′ j′ true (both i′ j′ (vertices d) (omega arith) (omega arith))) ∙ turn-step (trimmedOf g s d i′ j′) (trim-fine d f i′ j′ (omega arith) (omega arith))))
 
   -- what a step leaves
@@ -204,7 +205,7 @@ module _ (g : Grade) (s : List Float) where
 
   -- a fine record has demand 3
   pub fine-demand3 : (d : PlineViewData) → Fine d → Demand3 g s d
-  fine-demand3 d f = record { rows = λ ts. rows ts d f }
+  fine-demand3 d f = record { rows = λ ts. rows ts d f; number = λ ts. row-number g s ts d }
 
 -- demand 3
 pub demand3 : (g : Grade) (s : List Float) (d : PlineViewData) → Unrefused g s d → Even g d → Demand3 g s d

@@ -1,4 +1,4 @@
--- Laws of tests over an outline and of the checks, and the theorems: Demand3, Same, Shape, Table, Cut, OpenOutline, Made.
+-- Laws of tests over an outline and of the checks, and the theorems: Demand3, Same, Shape, Table, Cut, CutNumber, OpenOutline, Made.
 pub mod All
 pub mod Checks
 pub mod Demand3
@@ -6,5 +6,6 @@ pub mod Same
 pub mod Shape
 pub mod Table
 pub mod Cut
+pub mod CutNumber
 pub mod OpenOutline
 pub mod Made

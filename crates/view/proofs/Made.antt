@@ -1,4 +1,4 @@
--- What `create` and `from_new_start` answer passes the checks, and has equal bulges where its offset is 0: only an end on top of the next vertex has offset 0, and it takes the start's bulge.
+-- What `create` and `from_new_start` answer passes the checks, and has equal bulges where its offset is 0: only an end on top of the next vertex has offset 0, and it takes the start's bulge. Its cut number is 0.
 use mathlib.Core.Path.{_≡_, refl, sym, ap, subst}
 use mathlib.Core.Bool.{Bool, true, false, cond}
 use mathlib.Core.List.{List, [], _∷_}
@@ -26,7 +26,7 @@ use Rattle.view.specs.Outline.{vertexOf, countOf, viewable, all, numbers
 use Rattle.view.specs.Record.{recordOk}
 use Rattle.view.specs.Segment.{splitSegment}
 use Rattle.view.specs.Rows.{row}
-use Rattle.view.specs.Demand3.{Lists, MadeDemand3}
+use Rattle.view.specs.Demand3.{Lists, Made, MadeDemand3}
 use Rattle.view.specs.Cases.{vert, Q, arc}
 use Rattle.view.specs.Create.{nextOf, vertexBefore, ending, forwardData, endOnTop, endOnSegment, endingOf, endedAt, createOf, movedOn, roundEnding, roundFrom, newStartOf}
 use Rattle.view.specs.declared.view_data.PlineViewData.{PlineViewData}
@@ -52,6 +52,11 @@ record Ended (g : Grade) (b : Float) (e : Ending) : Type 0 where
   bulge-ok : bulgeOk g (e .bulge) ≡ true
   even : e .offset ≡ 0 → b ≡ e .bulge
 
+-- a fine record without a cut number
+pub record Fresh (g : Grade) (s : List Float) (d : PlineViewData) : Type 0 where
+  pub fine : Fine g s d
+  pub number : d .«cut_number» ≡ 0
+
 module _ (g : Grade) (s : List Float) (p : Vector2) (eps : Float) (a : Asked g s p eps) where
   size : 2 ≤ countOf s
   size = viewable-in s (a .outline) .0
@@ -63,22 +68,26 @@ module _ (g : Grade) (s : List Float) (p : Vector2) (eps : Float) (a : Asked g s
   before-in k = bulge-in g _ (vertex-in g s (a .numbers) _ (mod-lt (k + (countOf s - 1)) (omega (arith, size))))
 
   -- a forward record whose parts are in range
-  made : (start : ℕ) (first : PlineVertex) (e : Ending) → start < countOf s → vertexOk g first ≡ true → e .offset ≤ countOf s → Ended g (first .bulge) e → Fine g s (forwardData start first p e)
+  made : (start : ℕ) (first : PlineVertex) (e : Ending) → start < countOf s → vertexOk g first ≡ true → e .offset ≤ countOf s → Ended g (first .bulge) e → Fresh g s (forwardData start first p e)
   unfolding recordOk
   made start first e h v l x =
       let n = viewable-in s (a .outline) in
       record {
-        clear = record { outline = a .outline; numbers = a .numbers; record-in = simp (v, x .bulge-ok, a .point); placed = record { few = n .1; two = n .0; start = h; offset = l } };
-        even = x .even;
+        fine =
+            record {
+              clear = record { outline = a .outline; numbers = a .numbers; record-in = simp (v, x .bulge-ok, a .point); placed = record { few = n .1; two = n .0; start = h; offset = l } };
+              even = x .even;
+            };
+        number = refl;
       }
 
   -- `endedAt` gives such a record, or nothing
-  ended-fine : (start : ℕ) (first : PlineVertex) (e : Ending) (d : PlineViewData) → start < countOf s → vertexOk g first ≡ true → Ended g (first .bulge) e → given d ≡ endedAt s start p first e → Fine g s d
+  ended-fresh : (start : ℕ) (first : PlineVertex) (e : Ending) (d : PlineViewData) → start < countOf s → vertexOk g first ≡ true → Ended g (first .bulge) e → given d ≡ endedAt s start p first e → Fresh g s d
   unfolding endedAt
-  ended-fine start first e d h v x q =
+  ended-fresh start first e d h v x q =
       let l = check-passed badOffset (given (forwardData start first p e)) q in
       let same : forwardData start first p e ≡ d = same-given (sym (l .1)) in
-      subst (Fine g s) same (made start first e h v (leb-true _ _ (l .0)) x)
+      subst (Fresh g s) same (made start first e h v (leb-true _ _ (l .0)) x)
 
   moved-in : (k : ℕ) → k < countOf s → movedOn g s p k eps < countOf s
   unfolding movedOn
@@ -98,19 +107,19 @@ module _ (g : Grade) (s : List Float) (p : Vector2) (eps : Float) (a : Asked g s
         (λ _. record { bulge-ok = bulge-in g _ (split-in at h .0); even = λ z. absurd (omega arith) })
 
     -- the view round the whole outline from segment k
-    round-fine : (k : ℕ) → k < countOf s → Fine g s (roundFrom g limit s p k eps)
+    round-fresh : (k : ℕ) → k < countOf s → Fresh g s (roundFrom g limit s p k eps)
     unfolding roundFrom roundEnding
-    round-fine k h =
+    round-fresh k h =
         let two = size in
         let split = splitSegment g limit s k p eps in
-        either (λ (e : Ending). Fine g s (forwardData k (split .«split_vertex») p e)) (vnearOf g (posOf (vertexOf s k)) p eps)
+        either (λ (e : Ending). Fresh g s (forwardData k (split .«split_vertex») p e)) (vnearOf g (posOf (vertexOf s k)) p eps)
         (λ _. made k (split .«split_vertex») (ending (countOf s - 1) (vertexBefore s k .bulge)) h (split-in k h .1) (omega arith) (record { bulge-ok = before-in k; even = λ z. absurd (omega arith) }))
         (λ _. made k (split .«split_vertex») (ending (countOf s) (split .«updated_start» .bulge)) h (split-in k h .1) (omega arith) (record { bulge-ok = bulge-in g _ (split-in k h .0); even = λ z. absurd (omega arith) }))
 
 module _ (g : Grade) (sound : Sound g) (limit : Float) (s : List Float) (p : Vector2) (eps : Float) (d : PlineViewData) where
-  pub create-fine : (start at : ℕ) (first : PlineVertex) (traverse : ℕ) → createOf g limit s start p at first traverse eps ≡ given d → Fine g s d
+  pub create-fresh : (start at : ℕ) (first : PlineVertex) (traverse : ℕ) → createOf g limit s start p at first traverse eps ≡ given d → Fresh g s d
   unfolding createOf
-  create-fine start at first traverse q =
+  create-fresh start at first traverse q =
       let o = check-passed badOutline _ (sym q) in
       let n = check-passed badNumber _ (o .1) in
       let n₁ = and-both (numbersOk g s) _ (n .0) in
@@ -120,12 +129,12 @@ module _ (g : Grade) (sound : Sound g) (limit : Float) (s : List Float) (p : Vec
       let i = check-passed badIndex _ (c .1) in
       let b = and-both (ltb start (countOf s)) _ (i .0) in
       let a : Asked g s p eps = record { outline = o .0; numbers = n₁ .0; point = n₂ .0; tolerance = t .0 } in
-      ended-fine g s p eps a start first _ d (ltb-true _ _ (b .0)) (n₂ .1)
+      ended-fresh g s p eps a start first _ d (ltb-true _ _ (b .0)) (n₂ .1)
       (ends g s p eps a sound limit at (first .bulge) traverse (ltb-true _ _ (b .1)) (bulge-in g first (n₂ .1)) (ltb-true _ _ (c .0))) (i .1)
 
-  pub new-start-fine : (closed : Bool) (start : ℕ) → newStartOf g limit s closed p start eps ≡ given d → Fine g s d
+  pub new-start-fresh : (closed : Bool) (start : ℕ) → newStartOf g limit s closed p start eps ≡ given d → Fresh g s d
   unfolding newStartOf
-  new-start-fine closed start q =
+  new-start-fresh closed start q =
       let o = check-passed badOutline _ (sym q) in
       let n = check-passed badNumber _ (o .1) in
       let n₁ = and-both (numbersOk g s) _ (n .0) in
@@ -135,13 +144,16 @@ module _ (g : Grade) (sound : Sound g) (limit : Float) (s : List Float) (p : Vec
       let i = check-passed badIndex (given (roundFrom g limit s p k eps)) (c .1) in
       let a : Asked g s p eps = record { outline = o .0; numbers = n₁ .0; point = n₁ .1; tolerance = t .0 } in
       let same : roundFrom g limit s p k eps ≡ d = same-given (sym (i .1)) in
-      subst (Fine g s) same (round-fine g s p eps a sound limit k (moved-in g s p eps a start (ltb-true _ _ (i .0))))
+      subst (Fresh g s) same (round-fresh g s p eps a sound limit k (moved-in g s p eps a start (ltb-true _ _ (i .0))))
+
+made-fresh : (g : Grade) (s : List Float) (d : PlineViewData) → Fresh g s d → Made g s d
+made-fresh g s d w = record { demand3 = fine-demand3 g s d (w .fine); number = w .number }
 
 pub made-demand3 : (g : Grade) → Sound g → (limit : Float) → MadeDemand3 g limit
 made-demand3 g sound limit =
     record {
-      created = λ s start p at first traverse eps d q. fine-demand3 g s d (create-fine g sound limit s p eps d start at first traverse q);
-      started = λ s closed p start eps d q. fine-demand3 g s d (new-start-fine g sound limit s p eps d closed start q);
+      created = λ s start p at first traverse eps d q. made-fresh g s d (create-fresh g sound limit s p eps d start at first traverse q);
+      started = λ s closed p start eps d q. made-fresh g s d (new-start-fresh g sound limit s p eps d closed start q);
     }
 
 -- at f64
@@ -156,4 +168,4 @@ arc-made = refl
 -- and turned round it lists the arc from its end
 pub arc-turned : Lists double Q (row double Q (turn ∷ []) arc) (vert four four minusHalf ∷ vert four zero zero ∷ [])
 unfolding Q arc rowList stepList turnList turnAt viewList positionAt forward tab neg ofBits
-arc-turned = made-demand3-f64 .created Q 1 (vec four four) 2 _ 1 (double .fuzz) arc arc-made .rows (turn ∷ []) .lists
+arc-turned = made-demand3-f64 .created Q 1 (vec four four) 2 _ 1 (double .fuzz) arc arc-made .demand3 .rows (turn ∷ []) .lists

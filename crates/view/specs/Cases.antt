@@ -28,6 +28,7 @@ like-R offset p =
       «updated_end_bulge» = zero;
       «end_point» = p;
       «inverted_direction» = false;
+      «cut_number» = 0;
     }
 
 abbrev pub R : PlineViewData
@@ -43,4 +44,5 @@ arc =
       «updated_end_bulge» = half;
       «end_point» = vec four four;
       «inverted_direction» = false;
+      «cut_number» = 0;
     }

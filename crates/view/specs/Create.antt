@@ -30,7 +30,7 @@ vertexBefore s k = vertexPast s k (countOf s - 1)
 abbrev pub ending : ℕ → Float → Ending
 ending offset b = record { offset = offset; bulge = b }
 
--- a forward record
+-- a forward record: "`create` and `from_new_start` give 0"
 abbrev pub forwardData : ℕ → PlineVertex → Vector2 → Ending → PlineViewData
 forwardData start first p e =
     record {
@@ -40,6 +40,7 @@ forwardData start first p e =
       «updated_end_bulge» = e .bulge;
       «end_point» = p;
       «inverted_direction» = false;
+      «cut_number» = 0;
     }
 
 -- `create`, "intersect lies on top of vertex at start of segment"

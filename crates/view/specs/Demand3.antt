@@ -59,10 +59,17 @@ module _ (g : Grade) (s : List Float) where
   -- "Apply any row of reversals and trims."
   pub record Demand3 (d : PlineViewData) : Type 0 where
     pub rows : (ts : List Step) → Kept (row g s ts d) (rowList neg (g .zero) ts (listed g s d))
+    -- "no row of steps changes the number"
+    pub number : (ts : List Step) → row g s ts d .«cut_number» ≡ d .«cut_number»
+
+pub record Made (g : Grade) (s : List Float) (d : PlineViewData) : Type 0 where
+  pub demand3 : Demand3 g s d
+  -- "`create` and `from_new_start` give 0"
+  pub number : d .«cut_number» ≡ 0
 
 -- What `create` and `from_new_start` answer has demand 3, whatever they are asked: it lists without refusal, and where its offset is 0 its two bulges are equal.
 pub record MadeDemand3 (g : Grade) (limit : Float) : Type 0 where
   pub created : (s : List Float) (start : ℕ) (p : Vector2) (at : ℕ) (first : PlineVertex) (traverse : ℕ) (eps : Float) (d : PlineViewData)
-      → createOf g limit s start p at first traverse eps ≡ given d → Demand3 g s d
+      → createOf g limit s start p at first traverse eps ≡ given d → Made g s d
   pub started : (s : List Float) (closed : Bool) (p : Vector2) (start : ℕ) (eps : Float) (d : PlineViewData)
-      → newStartOf g limit s closed p start eps ≡ given d → Demand3 g s d
+      → newStartOf g limit s closed p start eps ≡ given d → Made g s d

@@ -7,6 +7,7 @@ pub mod Create
 pub mod Check
 pub mod Answers
 pub mod Rows
+pub mod CutNumber
 pub mod Demand3
 pub mod Cases
 pub mod Cut

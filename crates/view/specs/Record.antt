@@ -12,7 +12,7 @@ use Rattle.lists.specs.View.{View, forward, backward, vertexAt, viewList, turnV
 use Rattle.view.specs.Outline.{countOf, vertexPast, vertOf, ofVert, srcOf}
 use Rattle.view.specs.declared.view_data.PlineViewData.{PlineViewData}
 
--- the struct as a view, and back
+-- the struct's view, which is the crate's fields, and the struct of a cut number and a view
 abbrev pub viewOf : PlineViewData → View Float
 viewOf d =
     record {
@@ -25,8 +25,8 @@ viewOf d =
       inverted = d .«inverted_direction»;
     }
 
-abbrev pub dataOf : View Float → PlineViewData
-dataOf r =
+abbrev pub dataOf : ℕ → View Float → PlineViewData
+dataOf number r =
     record {
       «start_index» = r .start;
       «end_index_offset» = r .offset;
@@ -34,11 +34,12 @@ dataOf r =
       «updated_end_bulge» = r .endBulge;
       «end_point» = record { x = r .endX; y = r .endY };
       «inverted_direction» = r .inverted;
+      «cut_number» = number;
     }
 
--- the record turned round
+-- the record turned round: "Reversal and trim keep [the cut number]"
 abbrev pub turnedOf : PlineViewData → PlineViewData
-turnedOf d = dataOf (turnView (viewOf d))
+turnedOf d = dataOf (d .«cut_number») (turnView (viewOf d))
 
 -- how many vertices a view has, and how many numbers its list
 abbrev pub vertices : PlineViewData → ℕ
@@ -68,11 +69,11 @@ module _ (g : Grade) where
 
   -- the record of positions a to b of the forward list
   abbrev pub partOf : List Float → PlineViewData → ℕ → ℕ → PlineViewData
-  partOf s d a b = dataOf (part (g .zero) (srcOf s) (countOf s) a b (viewOf d))
+  partOf s d a b = dataOf (d .«cut_number») (part (g .zero) (srcOf s) (countOf s) a b (viewOf d))
 
   -- the record of positions i to j of the view
   abbrev pub trimmedOf : List Float → PlineViewData → ℕ → ℕ → PlineViewData
-  trimmedOf s d i j = dataOf (trimView (g .zero) (srcOf s) (countOf s) i j (viewOf d))
+  trimmedOf s d i j = dataOf (d .«cut_number») (trimView (g .zero) (srcOf s) (countOf s) i j (viewOf d))
 
   -- the record's numbers are in range
   unfoldable pub recordOk : PlineViewData → Bool

@@ -84,6 +84,7 @@ fn ended_at(source: &[f64], start: usize, p: Vector2, first: PlineVertex, e: End
         updated_end_bulge: e.bulge,
         end_point: p,
         inverted_direction: false,
+        cut_number: 0,
     })
 }
 

@@ -77,6 +77,7 @@ fn round_from(source: &[f64], p: Vector2, k: usize, eps: f64) -> PlineViewData
         updated_end_bulge: e.bulge,
         end_point: p,
         inverted_direction: false,
+        cut_number: 0,
     }
 }
 

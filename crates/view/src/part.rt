@@ -24,6 +24,7 @@ fn part(source: &[f64], d: PlineViewData, a: usize, b: usize) -> PlineViewData
         updated_end_bulge: last.bulge,
         end_point: end,
         inverted_direction: d.inverted_direction,
+        cut_number: d.cut_number,
     }
 }
 

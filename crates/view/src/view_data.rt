@@ -34,6 +34,8 @@ pub struct PlineViewData {
     pub updated_end_bulge: f64,
     pub end_point: Vector2,
     pub inverted_direction: bool,
+    // The paper ticket's number, 0 for none. Not the crate's: no answer but a record depends on it.
+    pub cut_number: u32,
 }
 
 pub enum ViewAnswer {

@@ -30,9 +30,9 @@ returns c =
     let l = now (a .list) in
     let n = vertices (a .d) in
     let listed = at-list .list .ensures .1 ∙ list-written s (a .d) l (o .pre .2) in
-    let t = viewLine (a .k) (a .number) cut n in (
+    let t = viewLine (a .k) (a .number) cut n (a .d .«cut_number») in (
       named-part (ap (λ (u : List Float). t ++ rows u n) listed ∙ ap (λ (u : List ℕ). t ++ u) (list-rows s (a .d) l))
-          (record { piece = then (at-line .put-view-line .ensures) (at-rows .put-rows .ensures); short = cut-length (a .k) (a .number) n _ (o .pre .0) (o .pre .1) (omega (arith, o .pre .2 .few)) }),
+          (record { piece = then (at-line .put-view-line .ensures) (at-rows .put-rows .ensures); short = cut-length (a .k) (a .number) n _ _ (o .pre .0) (o .pre .1) (omega (arith, o .pre .2 .few)) }),
       listed,
     )
 

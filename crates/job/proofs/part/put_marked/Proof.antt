@@ -46,7 +46,7 @@ returns-2 c =
     let a = o .args in
     let e = o .pre .2 in
     let q = sym (ap markCase (at-hold .enum-told2 .given .1)) ∙ at-mark .mark .ensures in
-    let length = view-length (a .k) (at-number .number .result) hold 0 (o .pre .0) (omega arith) (omega arith) in (
+    let length = view-length (a .k) (at-number .number .result) hold 0 (a .d .«cut_number») (o .pre .0) (omega arith) (omega arith) in (
       named-part (given-text (a .closed) (now (a .outline)) (a .d) (a .k) (now (a .list)) _ _ hold e (at-number .number .ensures) q) (record { piece = at-line .put-view-line .ensures; short = omega arith }),
       given-buffer (a .closed) (now (a .outline)) (a .d) (a .k) (now (a .list)) _ hold e q,
     )

@@ -1,4 +1,4 @@
--- The direction as a number, and then 0.
+-- The direction as a number, and then the cut number.
 use mathlib.Core.Path.{ap}
 use mathlib.Core.List.{_++_}
 use Prim.Native.Nat.{ℕ}
@@ -13,10 +13,11 @@ use Rattle.record.proofs.record.put_end.Tie as tie
 returns : tie.Need-returns
 unfolding endBytes
 returns c =
-    let at-reserved = c .before .before in
-    let at-number = at-reserved .before .before .before .before in
-    let at-direction = at-number .before in
-    (named (ap (λ (n : ℕ). bytes4 n ++ bytes4 0) (at-direction .direction .ensures)) (search writes), omega arith)
+    let at-number = c .before .before in
+    let at-put = at-number .before .before .before .before in
+    let at-direction = at-put .before in
+    let a = at-direction .before .before .before .args in
+    (named (ap (λ (n : ℕ). bytes4 n ++ bytes4 (a .cut-number)) (at-direction .direction .ensures)) (search writes), omega arith)
 
 pub put-end-spec : {M : Type 1} → statement M
 put-end-spec = tie.close (tie.spec (λ c κs. search needs) (λ c κs. search needs) (λ c κs. search needs) (λ c. search needs) returns)

@@ -4,7 +4,8 @@ use Rattle.record.proofs.record.record_of.Statement.{statement}
 use Rattle.record.proofs.record.record_of.Tie as tie
 
 returns : tie.Need-returns
-returns at-direction =
+returns at-number =
+    let at-direction = at-number .before in
     let at-end-y = at-direction .before in
     let at-end-x = at-end-y .before in
     let at-end-bulge = at-end-x .before in
@@ -23,6 +24,7 @@ returns at-direction =
       at-end-x .float-at5 .ensures,
       at-end-y .float-at6 .ensures,
       at-direction .le323 .ensures .0,
+      at-number .le324 .ensures .0,
     )
 
 pub record-of-spec : {M : Type 1} → statement M
@@ -41,4 +43,6 @@ record-of-spec =
     (λ c. search needs)
     (λ c κs. search needs)
     (λ c κs. search needs)
+    (λ c κs. search needs)
+    (λ c. search needs)
     returns)
