@@ -13,12 +13,13 @@ A line is one of these. Words are separated by spaces, and '#' begins a comment:
       to X Y            its end point
       end-bulge BULGE   the bulge of its last segment
       inverted          its direction is turned round; left out, it is not
+      cut-number NUMBER the number of its paper ticket; left out, it has none, which is 0
 
 The outline line is needed, once; the box line may be there once. A view needs each of its lines once, and only
-'inverted' may be left out. A vertex, outline or box line ends the view above it.
+'inverted' and 'cut-number' may be left out. A vertex, outline or box line ends the view above it.
 
-INDEX and STEPS are whole numbers from 0 to 4294967295, in decimal digits. The others are decimal numbers such as 20,
--0.5 or 1e-3, and become the nearest f64.
+INDEX, STEPS and NUMBER are whole numbers from 0 to 4294967295, in decimal digits. The others are decimal numbers such
+as 20, -0.5 or 1e-3, and become the nearest f64.
 
 A line that is anything else is refused with its number, and no sheet is written. Limits and ranges are not judged
 here: the program sheet refuses what is beyond them. docs/SHEET.md has the sheet's bytes.
@@ -44,6 +45,7 @@ FORMS = {
     "to": "X Y",
     "end-bulge": "BULGE",
     "inverted": "",
+    "cut-number": "NUMBER",
 }
 # What is said to a text that asks for the other box. Its flag is still read in stored sheets, and set in none that is made.
 RETIRED = "'box true' or no box line: 'box fast' is retired, and no sheet is made with its flag"
@@ -72,7 +74,7 @@ def real(word):
 
 def value(field, word):
     """What a word says in its place, or None, and what was wanted there."""
-    if field in ("INDEX", "STEPS"):
+    if field in ("INDEX", "STEPS", "NUMBER"):
         return whole(word), f"a whole number from 0 to {2**32 - 1} for {field}"
     return real(word), f"a finite decimal number such as 20, -0.5 or 1e-3 for {field}"
 
@@ -149,7 +151,8 @@ def pack(alone, vertices, views):
         out.append(struct.pack("<3d", *vertex["vertex"][1]))
     for view in views:
         numbers = [number for key in NEEDED for number in view[key][1]]
-        out.append(struct.pack("<2I6d2I", *numbers, "inverted" in view, 0))
+        _, (cut_number,) = view.get("cut-number", (None, [0]))
+        out.append(struct.pack("<2I6d2I", *numbers, "inverted" in view, cut_number))
     return b"".join(out)
 
 

@@ -5,8 +5,8 @@ It reads the file TEXT, or standard input, and prints the same lines with the sa
 become the shortest decimal that reads back to the same f64, and a verdict or a refusal gets its name:
 
     box 0.0 -0.5 1.0 0.0
-    view 0 7 cut 2 (valid)
-    view 1 4 hold 0 (end not on its segment)
+    view 0 7 cut 2 17 (valid)
+    view 1 4 hold 0 18 (end not on its segment)
 
 The text is checked as it is read. One that is cut short, or that the program can't have printed, is refused with the
 line and what was wanted there, and nothing is shown. docs/SHEET.md has the lines.
@@ -34,10 +34,11 @@ BAD_NUMBER = "a number is NaN, infinite or out of range"
 SHEET_REFUSALS = {
     "1": BAD_NUMBER,
     "11": "wrong length, version, count, offset or flag",
-    "12": "a direction is not 0 or 1, or reserved bytes are not 0",
+    "12": "a direction is not 0 or 1",
 }
 VIEW_REFUSALS = {"1": BAD_NUMBER, "4": "start index not below the vertex count"}
 COUNT = "(0|[1-9][0-9]{0,3})"
+CUT_NUMBER = "(0|[1-9][0-9]{0,9})"
 FLOAT = "([0-9a-f]{16})"
 RETIRED = "((?: retired)?)"
 
@@ -89,8 +90,10 @@ def show_row(text, k):
 
 
 def show_view(text, k, vertices, kind):
-    what = f"'view {k} VERDICT cut|hold COUNT' or 'view {k} refused N'"
-    view, verdict, mark, count, refusal = text.line(f"view {COUNT} (?:{COUNT} (cut|hold) {COUNT}|refused {COUNT})", what)
+    what = f"'view {k} VERDICT cut|hold COUNT NUMBER' or 'view {k} refused N'"
+    view, verdict, mark, count, cut_number, refusal = text.line(
+        f"view {COUNT} (?:{COUNT} (cut|hold) {COUNT} {CUT_NUMBER}|refused {COUNT})", what
+    )
     text.check(view == str(k), what)
     if refusal:
         numbers = VIEW_REFUSALS if vertices >= 2 else ["1"]
@@ -108,7 +111,8 @@ def show_view(text, k, vertices, kind):
     else:
         most = vertices + 2 if kind == "closed" else vertices
         text.check(2 <= int(count) <= most, f"a count from 2 to {most}")
-    text.show(f"view {k} {verdict} {mark} {count} ({why})")
+    text.check(int(cut_number) < 2**32, f"a cut number from 0 to {2**32 - 1}")
+    text.show(f"view {k} {verdict} {mark} {count} {cut_number} ({why})")
     for position in range(int(count)):
         show_row(text, position)
 

@@ -41,7 +41,7 @@ enum bf_refusal {
     BF_BAD_TRIM = 9,       /* a trim without 0 <= i < j <= offset + 1 */
     BF_NOT_CLOSED = 10,    /* a new start on an open outline */
     BF_BAD_SHEET = 11,     /* a record that is not 64 bytes */
-    BF_BAD_RECORD = 12     /* a record's direction is not 0 or 1, or its reserved field is not 0 */
+    BF_BAD_RECORD = 12     /* a record's direction is not 0 or 1 */
 };
 
 /* What bf_view_validate says of a view. The numbers that it gives beside the verdict stand there. */
@@ -58,7 +58,7 @@ enum bf_verdict {
 /* Bytes of stack that are enough for any call. */
 enum { BF_STACK_BYTES = 4096 };
 
-/* A view of an outline. */
+/* A view of an outline. Its cut number changes nothing that a call answers of it but the number itself. */
 typedef struct bf_record {
     uint32_t start_index;
     uint32_t end_index_offset;
@@ -66,7 +66,7 @@ typedef struct bf_record {
     double updated_end_bulge;
     double end_point[2];
     uint32_t inverted_direction; /* 0 forward, 1 inverted */
-    uint32_t reserved;           /* 0 */
+    uint32_t cut_number;         /* of the paper ticket, 0 for none */
 } bf_record;
 
 #ifdef __cplusplus
@@ -110,13 +110,13 @@ uint8_t bf_seg_bounding_box(const double *seg, size_t seg_len, double *out, size
 uint8_t bf_seg_midpoint(const double *seg, size_t seg_len, double *out, size_t out_len);
 
 /* The record of the view that starts at the vertex, on segment `start`, and ends at (x, y) on segment `intersect`, over
- * `traverse` vertices: 64 bytes. `vertex` is 3 numbers. 3, 1, 2, 5, 4, 5, 8. */
+ * `traverse` vertices: 64 bytes, with cut number 0. `vertex` is 3 numbers. 3, 1, 2, 5, 4, 5, 8. */
 uint8_t bf_view_create(const double *outline, size_t outline_len, uint64_t start, double x, double y,
                        uint64_t intersect, const double *vertex, size_t vertex_len, uint64_t traverse,
                        double tolerance, void *out, size_t out_len);
 
-/* The record of the view round a closed outline from (x, y) on segment `start`: 64 bytes. `closed` is 0 for an open
- * outline, which is refused 10; any other number is for a closed one. 3, 1, 2, 10, 4, 8. */
+/* The record of the view round a closed outline from (x, y) on segment `start`: 64 bytes, with cut number 0. `closed` is 0
+ * for an open outline, which is refused 10; any other number is for a closed one. 3, 1, 2, 10, 4, 8. */
 uint8_t bf_view_from_new_start(const double *outline, size_t outline_len, uint8_t closed, double x, double y,
                                uint64_t start, double tolerance, void *out, size_t out_len);
 
@@ -144,11 +144,11 @@ uint8_t bf_view_get(const double *outline, size_t outline_len, const void *recor
 uint8_t bf_view_list(const double *outline, size_t outline_len, const void *record, size_t record_len, double *out,
                      size_t out_len, uint64_t *count, size_t count_len);
 
-/* The record of the view turned round: 64 bytes. 11, 12, 3, 1, 5, 4, 7, 8. */
+/* The record of the view turned round: 64 bytes, with its cut number. 11, 12, 3, 1, 5, 4, 7, 8. */
 uint8_t bf_view_reverse(const double *outline, size_t outline_len, const void *record, size_t record_len, void *out,
                         size_t out_len);
 
-/* The record of positions i to j of the view: 64 bytes. 11, 12, 3, 1, 5, 4, 7, 9, 8. */
+/* The record of positions i to j of the view: 64 bytes, with its cut number. 11, 12, 3, 1, 5, 4, 7, 9, 8. */
 uint8_t bf_view_trim(const double *outline, size_t outline_len, const void *record, size_t record_len, uint64_t i,
                      uint64_t j, void *out, size_t out_len);
 

@@ -7,7 +7,7 @@ struct Record {
     updated_end_bulge: f64,
     end_point: [f64; 2],
     inverted_direction: u32,
-    reserved: u32,
+    cut_number: u32,
 }
 
 extern "C" {
@@ -31,7 +31,7 @@ fn main() {
         updated_end_bulge: 0.0,
         end_point: [50.0, 40.0],
         inverted_direction: 0,
-        reserved: 0,
+        cut_number: 17,
     };
     let mut cut = 0;
     let refusal = unsafe { bf_view_mark(outline.as_ptr(), 12, 1, &path, 64, &mut cut, 1) };

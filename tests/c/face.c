@@ -99,13 +99,13 @@ static const void *altered(uint32_t offset, double x, double y, double end_bulge
     return at(&r);
 }
 
-/* R with another start, direction or reserved field. */
-static const void *marked(uint32_t start, uint32_t direction, uint32_t reserved)
+/* R with another start, direction or cut number. */
+static const void *marked(uint32_t start, uint32_t direction, uint32_t cut_number)
 {
     r = R;
     r.start_index = start;
     r.inverted_direction = direction;
-    r.reserved = reserved;
+    r.cut_number = cut_number;
     return at(&r);
 }
 
@@ -222,7 +222,7 @@ static void call_judges(void)
     r.inverted_direction = 1;
     say("the same, turned round", BYTE, 1, bf_view_mark(Q, 12, 0, at(&r), 64, out, 1));
     say("mark P11", BYTE, 1, bf_view_mark(Q, 12, 1, altered(2, 4, 4, 0), 64, out, 1));
-    say("mark, reserved 1", BYTE, 1, bf_view_mark(Q, 12, 1, marked(0, 0, 1), 64, out, 1));
+    say("mark, cut number 1", BYTE, 1, bf_view_mark(Q, 12, 1, marked(0, 0, 1), 64, out, 1));
     say("mark, no room", BYTE, 1, bf_view_mark(Q, 12, 1, at(&R), 64, out, 0));
 }
 
@@ -261,6 +261,9 @@ static void call_steps(void)
     say("trim that 1 to 2", RECORD, 0, bf_view_trim(Q, 12, at(&last), 64, 1, 2, out, 64));
     say("P9", LIST, 0, list(Q, 12, at(&last)));
     say("trim R 0 to 3", RECORD, 0, bf_view_trim(Q, 12, at(&R), 64, 0, 3, out, 64));
+    say("reverse R, cut number 1", RECORD, 0, bf_view_reverse(Q, 12, marked(0, 0, 1), 64, out, 64));
+    say("trim that 1 to 2", RECORD, 0, bf_view_trim(Q, 12, at(&last), 64, 1, 2, out, 64));
+    say("trim R 1 to 3, the last cut number", RECORD, 0, bf_view_trim(Q, 12, marked(0, 0, 4294967295u), 64, 1, 3, out, 64));
 
     say("reverse, uneven bulges", RECORD, 0, bf_view_reverse(Q, 12, altered(0, 2, 0, 0.5), 64, out, 64));
     say("reverse 63 bytes", RECORD, 0, bf_view_reverse(Q, 12, at(&R), 63, out, 64));
@@ -366,8 +369,8 @@ static void print_said(void)
         memcpy(&last, bytes + shift, sizeof last);
         printf(" start %u offset %u from %.17g %.17g %.17g", (unsigned)last.start_index, (unsigned)last.end_index_offset,
                last.updated_start[0], last.updated_start[1], last.updated_start[2]);
-        printf(" to %.17g %.17g bulge %.17g direction %u reserved %u", last.end_point[0], last.end_point[1],
-               last.updated_end_bulge, (unsigned)last.inverted_direction, (unsigned)last.reserved);
+        printf(" to %.17g %.17g bulge %.17g direction %u cut number %u", last.end_point[0], last.end_point[1],
+               last.updated_end_bulge, (unsigned)last.inverted_direction, (unsigned)last.cut_number);
     } else if (said.kind == VERDICT) {
         w = 3;
         n = 5;

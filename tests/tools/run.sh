@@ -96,7 +96,7 @@ made kept
 # --- text_numbers.py refuses
 
 each "$cases/text_numbers.txt" show text
-text 'outline 0 1 open\nbox none\nview 0 1 hold 0'
+text 'outline 0 1 open\nbox none\nview 0 1 hold 0 0'
 says 1 "text:3: wanted a line feed at the end of this line: the text is cut short" show text
 text 'outline 0 0 open\nbox none\nview'
 says 1 "text:3: wanted the end of the text" show text
@@ -155,9 +155,9 @@ ends 0 show "$root/examples/hinge.out"
 shown "$here/hinge.numbers"
 ends 0 show "$cases/names.out"
 shown "$cases/names.numbers"
-text 'outline 1 2 closed\nbox none\nview 0 1 hold 0\nview 1 refused 1\n'
+text 'outline 1 2 closed\nbox none\nview 0 1 hold 0 7\nview 1 refused 1\n'
 ends 0 show text
-text 'outline 1 2 closed\nbox none\nview 0 1 hold 0 (no segments)\nview 1 refused 1 (a number is NaN, infinite or out of range)\n'
+text 'outline 1 2 closed\nbox none\nview 0 1 hold 0 7 (no segments)\nview 1 refused 1 (a number is NaN, infinite or out of range)\n'
 shown text
 text 'outline 1 0 closed\nbox none retired\n'
 ends 0 show text
@@ -182,7 +182,7 @@ text 'refused 11 (wrong length, version, count, offset or flag)\n'
 shown text
 text 'refused 12\n'
 ends 0 show text
-text 'refused 12 (a direction is not 0 or 1, or reserved bytes are not 0)\n'
+text 'refused 12 (a direction is not 0 or 1)\n'
 shown text
 
 echo "tests/tools: ok"

@@ -563,9 +563,31 @@ impl Generator {
         record
     }
 
+    /// A cut number: its ends, and where it gets a digit or a byte more.
+    pub fn cut_number(&mut self) -> u32 {
+        let r = &mut self.random;
+        let anything = r.bits() as u32 >> r.below(32);
+        r.pick(&[
+            0,
+            1,
+            9,
+            10,
+            255,
+            256,
+            999_999_999,
+            1_000_000_000,
+            1 << 31,
+            u32::MAX - 1,
+            u32::MAX,
+            anything,
+            anything,
+            anything,
+        ])
+    }
+
     /// A record's bytes, damaged where there is trouble.
     fn record_bytes(&mut self, record: &PlineViewData) -> Vec<u8> {
-        let mut bytes = encode(record).to_vec();
+        let mut bytes = encode(record, self.cut_number()).to_vec();
         if self.troubled() {
             let place = self.random.below(6);
             let limit = if place == 2 || place == 3 { 1.0 } else { 1e6 };
@@ -573,8 +595,8 @@ impl Generator {
             bytes[8 + 8 * place..][..8].copy_from_slice(&number.to_le_bytes());
         }
         if self.troubled() {
-            // Direction and reserved bytes.
-            let place = 56 + self.random.below(8);
+            // The direction.
+            let place = 56 + self.random.below(4);
             bytes[place] = self.random.pick(&[0, 1, 2, 3, 128, 255]);
         }
         if self.troubled() {

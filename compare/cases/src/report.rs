@@ -51,7 +51,7 @@ fn kind_of(line: &str) -> Option<String> {
         ["box", _, _, _, _] => Some("box".to_string()),
         ["box", _, _, _, _, "retired"] => Some("box retired".to_string()),
         ["view", _, "refused", refusal] => Some(format!("view refused {refusal}")),
-        ["view", _, verdict, mark, _] => Some(format!("view {verdict} {mark}")),
+        ["view", _, verdict, mark, _, _] => Some(format!("view {verdict} {mark}")),
         _ => None,
     }
 }

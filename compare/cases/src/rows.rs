@@ -18,7 +18,8 @@ pub fn compare_row(library: &impl Library, generator: &mut Generator, report: &m
         return;
     }
 
-    let mut record = encode(&record).to_vec();
+    let cut_number = generator.cut_number();
+    let mut record = encode(&record, cut_number).to_vec();
     for _ in 0..1 + generator.random.below(8) {
         let step = if generator.random.chance(50) {
             list = plain::reverse(&list);
@@ -44,6 +45,9 @@ pub fn compare_row(library: &impl Library, generator: &mut Generator, report: &m
         }
         let words = stepped.written(step.call);
         record = words.iter().flat_map(|word| word.to_le_bytes()).collect();
+        if record[60..] != cut_number.to_le_bytes() {
+            report.differ(&format!("{step}: another cut number"));
+        }
 
         let listing = Case::new(Call::ViewList).numbers(&outline).bytes(&record);
         let listing = listing.room(3 * list.len()).room(1);

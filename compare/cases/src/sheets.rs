@@ -12,8 +12,8 @@ use std::path::{Path, PathBuf};
 use std::process::Stdio;
 use std::thread;
 
-/// A sound sheet.
-pub fn sheet_of(outline: &[f64], flags: u16, records: &[PlineViewData]) -> Vec<u8> {
+/// A sound sheet, of records with their cut numbers.
+pub fn sheet_of(outline: &[f64], flags: u16, records: &[(PlineViewData, u32)]) -> Vec<u8> {
     let count = outline.len() / 3;
     let mut bytes = Vec::new();
     for field in [1, flags, count as u16, records.len() as u16] {
@@ -25,17 +25,18 @@ pub fn sheet_of(outline: &[f64], flags: u16, records: &[PlineViewData]) -> Vec<u
     for number in outline {
         bytes.extend(number.to_le_bytes());
     }
-    for record in records {
-        bytes.extend(encode(record));
+    for (record, cut_number) in records {
+        bytes.extend(encode(record, *cut_number));
     }
     bytes
 }
 
-/// The largest sheet: 2,000 vertices on a circle and 256 views, each cut, of 2,001 vertices and more.
+/// The largest sheet: 2,000 vertices on a circle and 256 views, each cut, of 2,001 vertices and more, with cut numbers of
+/// ten digits.
 pub fn largest_sheet() -> Vec<u8> {
     let outline = largest_outline();
-    let records: Vec<PlineViewData> = (0..256)
-        .map(|k| whole_view(&outline, 976 + 4 * k))
+    let records: Vec<(PlineViewData, u32)> = (0..256)
+        .map(|k| (whole_view(&outline, 976 + 4 * k), u32::MAX - k as u32))
         .collect();
     sheet_of(&outline, 1, &records)
 }
@@ -82,7 +83,9 @@ pub fn sheet(generator: &mut Generator) -> Vec<u8> {
     } else {
         views
     };
-    let records: Vec<PlineViewData> = (0..views).map(|_| generator.record(&outline)).collect();
+    let records: Vec<(PlineViewData, u32)> = (0..views)
+        .map(|_| (generator.record(&outline), generator.cut_number()))
+        .collect();
     let flags = generator.random.below(4) as u16;
     let mut bytes = sheet_of(&outline, flags, &records);
 
@@ -118,8 +121,8 @@ fn damage(generator: &mut Generator, bytes: &mut Vec<u8>, vertices: usize, views
             }
         }
         7 | 8 if views > 0 => {
-            // Direction or reserved bytes of one record.
-            let place = first_record + RECORD_BYTES * r.below(views) + 56 + r.below(8);
+            // The direction of one record.
+            let place = first_record + RECORD_BYTES * r.below(views) + 56 + r.below(4);
             if let Some(byte) = bytes.get_mut(place) {
                 *byte = r.pick(&[0, 1, 2, 4, 128, 255]);
             }

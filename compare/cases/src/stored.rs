@@ -112,7 +112,7 @@ fn by_hand() -> Vec<Case> {
         let case = seg(Call::SegTangentVector, &p4);
         case.number(x).number(y).room(2)
     };
-    let on_q = |call, record: &PlineViewData| Case::new(call).numbers(&Q).bytes(&encode(record));
+    let on_q = |call, record: &PlineViewData| Case::new(call).numbers(&Q).bytes(&encode(record, 0));
     let validate = |record: &PlineViewData| on_q(Call::ViewValidate, record).room(3).room(5);
     let list = |record: &PlineViewData| on_q(Call::ViewList, record).room(12).room(1);
     vec![
@@ -147,9 +147,9 @@ pub fn long() -> Vec<Case> {
     let (forward, inverted) = (whole_view(&limit, 1992), whole_view(&limit, 1996));
     let count = |outline: &[f64], record: &PlineViewData| {
         let case = Case::new(Call::ViewCount).numbers(outline);
-        case.bytes(&encode(record)).room(1)
+        case.bytes(&encode(record, 0)).room(1)
     };
-    let on_limit = |call, record| Case::new(call).numbers(&limit).bytes(&encode(record));
+    let on_limit = |call, record| Case::new(call).numbers(&limit).bytes(&encode(record, 0));
     vec![
         count(once_over, &whole_view(once_over, 1000)),
         count(&limit, &forward),
@@ -214,7 +214,7 @@ pub fn round() -> Vec<Case> {
             inverted_direction,
             ..whole_view(&Q, start)
         };
-        let on_q = |call| Case::new(call).numbers(&Q).bytes(&encode(&record));
+        let on_q = |call| Case::new(call).numbers(&Q).bytes(&encode(&record, 0));
         for position in [3, 4, 5] {
             cases.push(on_q(Call::ViewGet).whole(position).room(3));
         }
@@ -249,7 +249,9 @@ pub fn along_q(start_index: usize, end_index_offset: usize, inverted: bool) -> P
 pub fn gap() -> Vec<Case> {
     let mark = |outline: &[f64], closed: u8, record: &PlineViewData| {
         let case = Case::new(Call::ViewMark).numbers(outline);
-        case.whole(u64::from(closed)).bytes(&encode(record)).room(1)
+        case.whole(u64::from(closed))
+            .bytes(&encode(record, 0))
+            .room(1)
     };
     let mut cases = Vec::new();
     for (start, offset) in (0..4).flat_map(|start| (0..=4).map(move |offset| (start, offset))) {
@@ -299,12 +301,36 @@ pub fn turned() -> Vec<Case> {
     ]
 }
 
+/// The cut number at its ends, on Q: reversals and trims, refused ones too, and the calls that do not look at it.
+pub fn numbered() -> Vec<Case> {
+    let mut cases = Vec::new();
+    for (number, inverted) in
+        [0, 1, 1 << 16, u32::MAX - 1, u32::MAX].map(|number| (number, number % 2 == 1))
+    {
+        let record = encode(&along_q(0, 2, inverted), number);
+        let on_q = |call| Case::new(call).numbers(&Q).bytes(&record);
+        cases.push(on_q(Call::ViewReverse).room(64));
+        cases.push(on_q(Call::ViewTrim).whole(0).whole(3).room(64));
+        cases.push(on_q(Call::ViewTrim).whole(1).whole(2).room(64));
+        cases.push(on_q(Call::ViewTrim).whole(2).whole(2).room(64));
+        cases.push(on_q(Call::ViewReverse).room(63));
+        cases.push(on_q(Call::ViewList).room(12).room(1));
+        cases.push(on_q(Call::ViewGet).whole(1).room(3));
+        cases.push(on_q(Call::ViewCount).room(1));
+        cases.push(on_q(Call::ViewValidate).room(3).room(5));
+        let mark = Case::new(Call::ViewMark).numbers(&Q).whole(1);
+        cases.push(mark.bytes(&record).room(1));
+    }
+    cases
+}
+
 /// The whole stored list.
 pub fn all() -> Vec<Case> {
     let parts = [
         roots(),
         by_hand(),
         drawn(),
+        numbered(),
         long(),
         round(),
         gap(),

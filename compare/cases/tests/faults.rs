@@ -48,6 +48,13 @@ enum Fault {
     // The vertex limit.
     OldVertexLimit,
     OneVertexOverTheLimit,
+    // The cut number.
+    NumberedRecordRefused,
+    ReversalDropsTheNumber,
+    TrimDropsTheNumber,
+    TrimKeepsHalfTheNumber,
+    CreateKeepsAnOldNumber,
+    NewStartKeepsAnOldNumber,
     // Rows of splits.
     SplitAnUlpOverTheHalfCircle,
     SplitHalfCircleRefused,
@@ -67,6 +74,20 @@ impl Spoilt {
         record.inverted_direction.then_some(())?;
         Some(view::list(outline, &record).ok()?.len())
     }
+}
+
+/// Another cut number in a record that was answered.
+fn renumber(refusal: u8, out: &mut [u8], number: [u8; 4]) -> u8 {
+    if refusal == 0 {
+        out[60..64].copy_from_slice(&number);
+    }
+    refusal
+}
+
+/// What stands where a record's cut number goes.
+fn old_number(out: &[u8]) -> [u8; 4] {
+    let old = out.get(60..64).unwrap_or(&[0; 4]);
+    old.try_into().expect("4 bytes")
 }
 
 fn zero_sign_lost(numbers: &mut [f64]) {
@@ -213,9 +234,13 @@ impl Library for Spoilt {
         tolerance: f64,
         out: &mut [u8],
     ) -> u8 {
+        let old = old_number(out);
         let refusal = Oracle.view_create(
             outline, start, x, y, intersect, vertex, traverse, tolerance, out,
         );
+        if self.is(Fault::CreateKeepsAnOldNumber) {
+            return renumber(refusal, out, old);
+        }
         let count = outline.len() as u64 / 3;
         let bad_index = start >= count || intersect >= count;
         if self.is(Fault::IndexCheckedBeforeTraverse) && refusal == 5 && bad_index {
@@ -239,7 +264,12 @@ impl Library for Spoilt {
         } else {
             closed
         };
-        Oracle.view_from_new_start(outline, closed, x, y, start, tolerance, out)
+        let old = old_number(out);
+        let refusal = Oracle.view_from_new_start(outline, closed, x, y, start, tolerance, out);
+        if self.is(Fault::NewStartKeepsAnOldNumber) {
+            return renumber(refusal, out, old);
+        }
+        refusal
     }
 
     fn view_validate(
@@ -292,6 +322,10 @@ impl Library for Spoilt {
     }
 
     fn view_count(&self, outline: &[f64], bytes: &[u8], out: &mut [u64]) -> u8 {
+        let numbered = bytes.len() == 64 && record::cut_number(bytes) != 0;
+        if self.is(Fault::NumberedRecordRefused) && numbered {
+            return 12;
+        }
         if self.is(Fault::OffsetEqualToTheCountRefused)
             && let Ok(record) = record::decode(bytes)
             && view::count(outline, &record).is_ok()
@@ -348,7 +382,11 @@ impl Library for Spoilt {
             out.copy_from_slice(&whole[..63]);
             return refusal;
         }
-        Oracle.view_reverse(outline, bytes, out)
+        let refusal = Oracle.view_reverse(outline, bytes, out);
+        if self.is(Fault::ReversalDropsTheNumber) {
+            return renumber(refusal, out, [0; 4]);
+        }
+        refusal
     }
 
     fn view_trim(&self, outline: &[f64], bytes: &[u8], i: u64, j: u64, out: &mut [u8]) -> u8 {
@@ -365,6 +403,10 @@ impl Library for Spoilt {
                 Fault::StartNotWrapped => start,
                 Fault::StartEqualToTheCountNotWrapped if start == count => start,
                 Fault::WrappedStartOneTooHigh if start >= count => start - (count - 1),
+                Fault::TrimDropsTheNumber => return renumber(refusal, out, [0; 4]),
+                Fault::TrimKeepsHalfTheNumber => {
+                    return renumber(refusal, out, [bytes[60], bytes[61], 0, 0]);
+                }
                 _ => return refusal,
             };
             out[..4].copy_from_slice(&(start as u32).to_le_bytes());
@@ -422,6 +464,12 @@ fn each_fault_is_found() {
         Fault::ClosedByTwoTakenForOpen,
         Fault::OldVertexLimit,
         Fault::OneVertexOverTheLimit,
+        Fault::NumberedRecordRefused,
+        Fault::ReversalDropsTheNumber,
+        Fault::TrimDropsTheNumber,
+        Fault::TrimKeepsHalfTheNumber,
+        Fault::CreateKeepsAnOldNumber,
+        Fault::NewStartKeepsAnOldNumber,
     ] {
         let calls = found_within(fault);
         println!("{fault:?}: found within {calls:?} calls");
@@ -443,11 +491,11 @@ fn each_fault_in_rows_of_splits_is_found() {
     }
 }
 
-/// A sheet's text with another box line, where it has one.
-fn with_box_line(bytes: &[u8], change: impl Fn(&str) -> String) -> Vec<u8> {
+/// A sheet's text with other lines where they begin with this word.
+fn with_lines(bytes: &[u8], word: &str, change: impl Fn(&str) -> String) -> Vec<u8> {
     let text = String::from_utf8(sheet_text(bytes)).unwrap();
     let lines = text.lines().map(|line| {
-        if line.starts_with("box ") {
+        if line.starts_with(word) {
             change(line) + "\n"
         } else {
             format!("{line}\n")
@@ -459,13 +507,54 @@ fn with_box_line(bytes: &[u8], change: impl Fn(&str) -> String) -> Vec<u8> {
 #[test]
 fn each_sheet_fault_is_found() {
     type Program = fn(&[u8]) -> Vec<u8>;
-    let reserved_ignored: Program = |bytes| {
-        let mut bytes = bytes.to_vec();
-        let records = 16 + 24 * usize::from(bytes.get(4).copied().unwrap_or(0));
-        for at in (records + 60..bytes.len().max(3) - 3).step_by(64) {
-            bytes[at..at + 4].fill(0);
+    let numbered_refused: Program = |bytes| {
+        let text = sheet_text(bytes);
+        let vertices = bytes
+            .get(4..6)
+            .map_or(0, |v| u16::from_le_bytes([v[0], v[1]]));
+        let records = bytes.get(16 + 24 * usize::from(vertices)..);
+        let numbered = |record: &[u8]| record::cut_number(record) != 0;
+        if text.starts_with(b"outline") && records.unwrap_or(&[]).chunks_exact(64).any(numbered) {
+            return b"refused 12\n".to_vec();
         }
-        sheet_text(&bytes)
+        text
+    };
+    let number_missing: Program = |bytes| {
+        with_lines(bytes, "view ", |line| match line.rsplit_once(' ') {
+            Some((rest, _)) if !line.contains("refused") => rest.to_string(),
+            _ => line.to_string(),
+        })
+    };
+    let number_before_the_count: Program = |bytes| {
+        with_lines(bytes, "view ", |line| {
+            match line.split(' ').collect::<Vec<_>>()[..] {
+                [view, k, verdict, mark, count, number] => {
+                    [view, k, verdict, mark, number, count].join(" ")
+                }
+                _ => line.to_string(),
+            }
+        })
+    };
+    let number_of_held_views_0: Program = |bytes| {
+        with_lines(bytes, "view ", |line| match line.split_once(" hold 0 ") {
+            Some((rest, _)) => format!("{rest} hold 0 0"),
+            None => line.to_string(),
+        })
+    };
+    let number_after_a_refusal: Program = |bytes| {
+        with_lines(bytes, "view ", |line| {
+            if line.contains("refused") {
+                format!("{line} 0")
+            } else {
+                line.to_string()
+            }
+        })
+    };
+    let number_signed: Program = |bytes| {
+        with_lines(bytes, "view ", |line| match line.rsplit_once(' ') {
+            Some((rest, number)) => format!("{rest} {}", number.parse::<u32>().unwrap() as i32),
+            None => line.to_string(),
+        })
     };
     let extra_byte_ignored: Program = |bytes| {
         let text = sheet_text(bytes);
@@ -513,22 +602,22 @@ fn each_sheet_fault_is_found() {
         _ => sheet_text(bytes),
     };
     let word_missing_after_none: Program =
-        |bytes| with_box_line(bytes, |line| line.replace("none retired", "none"));
+        |bytes| with_lines(bytes, "box ", |line| line.replace("none retired", "none"));
     let word_missing_after_numbers: Program = |bytes| {
-        with_box_line(bytes, |line| match line {
+        with_lines(bytes, "box ", |line| match line {
             "box none retired" => line.to_string(),
             _ => line.replace(" retired", ""),
         })
     };
     let word_without_the_bit: Program = |bytes| {
-        with_box_line(bytes, |line| match line.strip_suffix(" retired") {
+        with_lines(bytes, "box ", |line| match line.strip_suffix(" retired") {
             Some(_) => line.to_string(),
             None => format!("{line} retired"),
         })
     };
     // The word is right, so that only the numbers can tell.
     let former_box: Program = |bytes| {
-        with_box_line(bytes, |line| match line.strip_suffix(" retired") {
+        with_lines(bytes, "box ", |line| match line.strip_suffix(" retired") {
             None | Some("box none") => line.to_string(),
             Some(_) => former_box_line(bytes) + " retired",
         })
@@ -540,7 +629,12 @@ fn each_sheet_fault_is_found() {
         ("the former box", former_box),
         ("the old vertex limit", old_vertex_limit),
         ("views cut across the gap", cut_across_the_gap),
-        ("reserved bytes ignored", reserved_ignored),
+        ("a cut number refused", numbered_refused),
+        ("no cut number", number_missing),
+        ("the cut number before the count", number_before_the_count),
+        ("0 for a held view's cut number", number_of_held_views_0),
+        ("a cut number after a refusal", number_after_a_refusal),
+        ("a signed cut number", number_signed),
         ("an extra byte ignored", extra_byte_ignored),
         ("flag bit 1 unknown", bit_1_unknown),
         ("numbers before records", numbers_before_records),

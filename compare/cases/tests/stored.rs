@@ -3,7 +3,7 @@
 
 use cases::case::Call;
 use cases::repository;
-use cases::stored::{Q, all, files, gap, long, roots, round, turned};
+use cases::stored::{Q, all, files, gap, long, numbered, roots, round, turned};
 use oracle::Oracle;
 use oracle::sheet::sheet_text;
 use std::fs;
@@ -91,6 +91,27 @@ fn the_list_knows_the_limit() {
         (Call::ViewTrim, 0, None),
     ];
     assert_eq!(answers.collect::<Vec<_>>(), expected);
+}
+
+/// The cut number at its ends, by hand: a record's last word is its direction and the number. Reversal and two trims keep it;
+/// then a trim of one vertex and a short buffer are refused; the other calls answer.
+#[test]
+fn the_list_keeps_the_number() {
+    let cases = numbered();
+    assert!(all().windows(cases.len()).any(|part| part == cases));
+    for (number, cases) in [0u64, 1, 0x1_0000, 0xffff_fffe, 0xffff_ffff]
+        .iter()
+        .zip(cases.chunks(10))
+    {
+        let inverted = number % 2;
+        let answers: Vec<_> = cases.iter().map(|case| case.run(&Oracle)).collect();
+        for (answer, direction) in answers.iter().zip([1 - inverted, inverted, inverted]) {
+            let last = answer.written(Call::ViewTrim).pop();
+            assert_eq!(last, Some(direction | number << 32), "{number}");
+        }
+        let refusals: Vec<u8> = answers.iter().map(|answer| answer.refusal).collect();
+        assert_eq!(refusals, [0, 0, 0, 9, 8, 0, 0, 0, 0, 0], "{number}");
+    }
 }
 
 /// The lookups once round Q, by hand: from the middle of segment `start` its four vertices follow, then the middle again.

@@ -14,7 +14,7 @@ const RECORD: usize = 16 + 24 * 4;
 fn square_sheet(flags: u16, change: impl Fn(&mut PlineViewData)) -> Vec<u8> {
     let mut record = whole_view(&SQUARE, 0);
     change(&mut record);
-    sheet_of(&SQUARE, flags, &[record])
+    sheet_of(&SQUARE, flags, &[(record, 0)])
 }
 
 /// Both must print this.
@@ -83,7 +83,7 @@ fn sizes() {
         &sheet_of(&one_more, 1, &[]),
         "refused 11\n",
     );
-    let records = vec![whole_view(&SQUARE, 0); 257];
+    let records = vec![(whole_view(&SQUARE, 0), 0); 257];
     // Each view of the whole square from the middle of a side has 6 vertices.
     begins(
         "256 views",
@@ -188,8 +188,8 @@ fn the_retired_flag() {
     // Views follow as they do without the bit, up to the largest sheet.
     prints(
         "one vertex and a view",
-        &sheet_of(&SQUARE[..3], 2, &[whole_view(&SQUARE, 0)]),
-        "outline 1 1 open\nbox none retired\nview 0 1 hold 0\n",
+        &sheet_of(&SQUARE[..3], 2, &[(whole_view(&SQUARE, 0), 0)]),
+        "outline 1 1 open\nbox none retired\nview 0 1 hold 0 0\n",
     );
     let mut bytes = largest_sheet();
     let clear = String::from_utf8(sheet_text(&bytes)).unwrap();
@@ -202,10 +202,54 @@ fn the_retired_flag() {
     let mut bytes = square_sheet(3, |_| {});
     bytes[16..24].copy_from_slice(&f64::NAN.to_le_bytes());
     prints("a number", &bytes, "refused 1\n");
-    bytes[RECORD + 60] = 1;
+    bytes[RECORD + 56] = 2;
     prints("a number and a record", &bytes, "refused 12\n");
     bytes.push(0);
     prints("a number, a record and the length", &bytes, "refused 11\n");
+}
+
+#[test]
+fn cut_numbers() {
+    // Views that are cut, held and refused, in one sheet. A refused view's line has no number.
+    let sound = whole_view(&SQUARE, 0);
+    let held = PlineViewData {
+        end_index_offset: 5,
+        ..sound
+    };
+    let refused = PlineViewData {
+        start_index: 4,
+        ..sound
+    };
+    for number in [
+        0,
+        1,
+        9,
+        10,
+        999_999_999,
+        1_000_000_000,
+        u32::MAX - 1,
+        u32::MAX,
+    ] {
+        let bytes = sheet_of(
+            &SQUARE,
+            1,
+            &[(sound, number), (held, number), (refused, number)],
+        );
+        let text = String::from_utf8(sheet_text(&bytes)).unwrap();
+        let views: Vec<&str> = text
+            .lines()
+            .filter(|line| line.starts_with("view"))
+            .collect();
+        assert_eq!(
+            views,
+            [
+                format!("view 0 7 cut 6 {number}"),
+                format!("view 1 2 hold 0 {number}"),
+                "view 2 refused 4".to_string(),
+            ]
+        );
+        prints(&format!("cut number {number}"), &bytes, &text);
+    }
 }
 
 #[test]
@@ -231,15 +275,15 @@ fn the_gap_of_an_open_outline() {
     };
     for inverted in [false, true] {
         for (start, offset) in [(0, 2), (1, 1), (2, 0), (2, 3)] {
-            let held = sheet_of(&strip, 0, &[view(start, offset, inverted)]);
-            prints("across", &held, &(head("open") + "view 0 7 hold 0\n"));
-            let cut = sheet_of(&strip, 1, &[view(start, offset, inverted)]);
-            let start = format!("{}view 0 7 cut {}\n", head("closed"), offset + 2);
+            let held = sheet_of(&strip, 0, &[(view(start, offset, inverted), 5)]);
+            prints("across", &held, &(head("open") + "view 0 7 hold 0 5\n"));
+            let cut = sheet_of(&strip, 1, &[(view(start, offset, inverted), 5)]);
+            let start = format!("{}view 0 7 cut {} 5\n", head("closed"), offset + 2);
             begins("closed", &cut, &start, 5 + offset);
         }
         for (start, offset) in [(0, 0), (0, 1), (1, 0)] {
-            let cut = sheet_of(&strip, 0, &[view(start, offset, inverted)]);
-            let start = format!("{}view 0 7 cut {}\n", head("open"), offset + 2);
+            let cut = sheet_of(&strip, 0, &[(view(start, offset, inverted), 5)]);
+            let start = format!("{}view 0 7 cut {} 5\n", head("open"), offset + 2);
             begins("before the gap", &cut, &start, 5 + offset);
         }
     }
@@ -270,13 +314,21 @@ fn every_number_of_the_outline() {
 
 #[test]
 fn every_field_of_a_record() {
-    // The whole sheet is refused for the direction and the reserved bytes, in front of the outline's numbers.
+    // The whole sheet is refused for the direction, in front of the outline's numbers, and for no cut number.
     let sound = square_sheet(1, |_| {});
-    for place in RECORD + 56..RECORD + 64 {
+    for place in RECORD + 56..RECORD + 60 {
         let mut bytes = sound.clone();
         bytes[place] = 2;
         bytes[16..24].copy_from_slice(&f64::NAN.to_le_bytes());
         prints(&format!("byte {place}"), &bytes, "refused 12\n");
+    }
+    for (place, number) in [(60, "2"), (61, "512"), (62, "131072"), (63, "33554432")] {
+        let mut bytes = sound.clone();
+        bytes[RECORD + place] = 2;
+        let text = String::from_utf8(sheet_text(&bytes)).unwrap();
+        let line = text.lines().nth(2);
+        assert_eq!(line, Some(&format!("view 0 7 cut 6 {number}")[..]));
+        begins(&format!("byte {place}"), &bytes, &text, 9);
     }
     // Anything else is the view's own matter, after the outline's two lines.
     let own = |name: &str, change: &dyn Fn(&mut PlineViewData), line: &str| {
@@ -287,7 +339,7 @@ fn every_field_of_a_record() {
         begins(name, &bytes, "outline 4 1 closed\nbox ", 3);
     };
     own("start index", &|d| d.start_index = 4, "view 0 refused 4\n");
-    own("offset", &|d| d.end_index_offset = 5, "view 0 2 hold 0\n");
+    own("offset", &|d| d.end_index_offset = 5, "view 0 2 hold 0 0\n");
     own(
         "start x",
         &|d| d.updated_start.x = f64::NAN,
@@ -317,11 +369,11 @@ fn every_field_of_a_record() {
     own(
         "start off its segment",
         &|d| d.updated_start.y = 1.0,
-        "view 0 3 hold 0\n",
+        "view 0 3 hold 0 0\n",
     );
     own(
         "end off its segment",
         &|d| d.end_point.y = 1.0,
-        "view 0 4 hold 0\n",
+        "view 0 4 hold 0 0\n",
     );
 }

@@ -1,13 +1,12 @@
 //! The library's face: the functions on numbers and slices that are compared, and the oracle's answers to them.
 
 use crate::checks::check;
-use crate::record::{decode, encode};
+use crate::record::{cut_number, decode, encode};
 use crate::{AABB, PlineViewData, Vector2, ViewDataValidation, refusal, segment, view};
 
 /// The calls of the C face, with slices in place of pointers. Each answers 0 where it answers, else document
 /// 01's refusal number, and then has written nothing. A record is the job sheet's 64 bytes; another length is
-/// refused 11 and a bad direction or reserved field 12, before anything else. A short answer buffer is refused
-/// 8, last.
+/// refused 11 and a bad direction 12, before anything else. A short answer buffer is refused 8, last.
 #[allow(clippy::too_many_arguments)]
 pub trait Library {
     fn sqrt(&self, x: f64, out: &mut [f64]) -> u8;
@@ -116,8 +115,9 @@ fn verdict_values(verdict: &ViewDataValidation<f64>) -> ([u64; 3], [f64; 5]) {
     }
 }
 
-fn give_record(answer: PlineViewData, out: &mut [u8]) -> Result<(), u8> {
-    give(encode(&answer), out)
+/// A record with its cut number: `create` and `from_new_start` give 0, reversal and trim keep it.
+fn give_record(answer: PlineViewData, cut_number: u32, out: &mut [u8]) -> Result<(), u8> {
+    give(encode(&answer, cut_number), out)
 }
 
 /// 0, or the refusal.
@@ -227,7 +227,7 @@ impl Library for Oracle {
         let end = Vector2::new(x, y);
         reply(
             view::create(outline, start, end, intersect, vertex, traverse, tolerance)
-                .and_then(|record| give_record(record, out)),
+                .and_then(|record| give_record(record, 0, out)),
         )
     }
 
@@ -244,7 +244,7 @@ impl Library for Oracle {
     ) -> u8 {
         reply(
             view::from_new_start(outline, closed != 0, Vector2::new(x, y), start, tolerance)
-                .and_then(|record| give_record(record, out)),
+                .and_then(|record| give_record(record, 0, out)),
         )
     }
 
@@ -301,13 +301,17 @@ impl Library for Oracle {
 
     #[inline(never)]
     fn view_reverse(&self, outline: &[f64], record: &[u8], out: &mut [u8]) -> u8 {
-        reply(decode(record).and_then(|record| give_record(view::reverse(outline, &record)?, out)))
+        reply(decode(record).and_then(|data| {
+            let turned = view::reverse(outline, &data)?;
+            give_record(turned, cut_number(record), out)
+        }))
     }
 
     #[inline(never)]
     fn view_trim(&self, outline: &[f64], record: &[u8], i: u64, j: u64, out: &mut [u8]) -> u8 {
-        reply(
-            decode(record).and_then(|record| give_record(view::trim(outline, &record, i, j)?, out)),
-        )
+        reply(decode(record).and_then(|data| {
+            let trimmed = view::trim(outline, &data, i, j)?;
+            give_record(trimmed, cut_number(record), out)
+        }))
     }
 }

@@ -1,4 +1,4 @@
-//! A view record as the job sheet's 64 bytes.
+//! A view record as the job sheet's 64 bytes: the published text's fields, and the cut number beside them.
 
 use crate::checks::check;
 use crate::{PlineVertex, PlineViewData, Vector2, refusal};
@@ -13,12 +13,17 @@ pub(crate) fn f64_at(bytes: &[u8], at: usize) -> f64 {
     f64::from_le_bytes(bytes[at..at + 8].try_into().unwrap())
 }
 
-/// Refusal 12's two fields: direction 0 or 1, reserved bytes 0.
+/// Refusal 12's field: direction 0 or 1.
 pub(crate) fn well_formed(record: &[u8]) -> bool {
-    u32_at(record, 56) <= 1 && u32_at(record, 60) == 0
+    u32_at(record, 56) <= 1
 }
 
-/// The fields of 64 bytes that are `well_formed`.
+/// The cut number of 64 bytes, 0 for none.
+pub fn cut_number(record: &[u8]) -> u32 {
+    u32_at(record, 60)
+}
+
+/// The published text's fields of 64 bytes that are `well_formed`.
 pub(crate) fn fields(record: &[u8]) -> PlineViewData {
     PlineViewData {
         start_index: u32_at(record, 0) as usize,
@@ -37,8 +42,8 @@ pub fn decode(bytes: &[u8]) -> Result<PlineViewData, u8> {
     Ok(fields(bytes))
 }
 
-/// The bytes of a record whose index and offset fit in 32 bits.
-pub fn encode(record: &PlineViewData) -> [u8; RECORD_BYTES] {
+/// The bytes of a record whose index and offset fit in 32 bits, under a cut number.
+pub fn encode(record: &PlineViewData, cut_number: u32) -> [u8; RECORD_BYTES] {
     let mut bytes = [0; RECORD_BYTES];
     let start = u32::try_from(record.start_index).unwrap();
     let offset = u32::try_from(record.end_index_offset).unwrap();
@@ -56,5 +61,6 @@ pub fn encode(record: &PlineViewData) -> [u8; RECORD_BYTES] {
         place.copy_from_slice(&number.to_le_bytes());
     }
     bytes[56] = u8::from(record.inverted_direction);
+    bytes[60..64].copy_from_slice(&cut_number.to_le_bytes());
     bytes
 }

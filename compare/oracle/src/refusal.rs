@@ -22,5 +22,5 @@ pub const TRIM: u8 = 9;
 pub const OPEN: u8 = 10;
 /// Sheet: wrong length, version, count, offset or unknown flag.
 pub const SHEET: u8 = 11;
-/// Sheet record: direction not 0 or 1, or reserved bytes not 0.
+/// Sheet record: direction not 0 or 1.
 pub const RECORD: u8 = 12;

@@ -1,7 +1,7 @@
 //! The job sheet, read from document 01's description, over the published text.
 
 use crate::checks::{MOST_VERTICES, check, outline_in_range};
-use crate::record::{RECORD_BYTES, f64_at, fields, u32_at, well_formed};
+use crate::record::{RECORD_BYTES, cut_number, f64_at, fields, u32_at, well_formed};
 use crate::view::{Outline, is_cut, validate_in, verdict_number, vertices};
 use crate::{AABB, PlineVertex, refusal};
 use cavalier_contours::polyline::{PlineSource, seg_bounding_box};
@@ -126,16 +126,21 @@ impl<'a> Sheet<'a> {
         writeln!(out, "{}", if self.retired { " retired" } else { "" })?;
 
         for (k, record) in self.records.chunks_exact(RECORD_BYTES).enumerate() {
+            let cut_number = cut_number(record);
             let record = fields(record);
             match validate_in(&outline, &record) {
                 Err(refusal) => writeln!(out, "view {k} refused {refusal}")?,
                 Ok(verdict) if is_cut(&outline, &record, &verdict) => {
-                    writeln!(out, "view {k} 7 cut {}", record.end_index_offset + 2)?;
+                    let count = record.end_index_offset + 2;
+                    writeln!(out, "view {k} 7 cut {count} {cut_number}")?;
                     for (position, vertex) in vertices(&outline, record).enumerate() {
                         write_vertex(out, position, vertex)?;
                     }
                 }
-                Ok(verdict) => writeln!(out, "view {k} {} hold 0", verdict_number(&verdict))?,
+                Ok(verdict) => {
+                    let number = verdict_number(&verdict);
+                    writeln!(out, "view {k} {number} hold 0 {cut_number}")?;
+                }
             }
         }
         Ok(())

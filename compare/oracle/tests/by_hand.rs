@@ -1,6 +1,9 @@
-//! The cases that document 01 checked by hand, its sheet, and sheets with the flag that is retired.
+//! The cases that document 01 checked by hand, its sheet, sheets with the flag that is retired, and cut numbers.
 
-use oracle::{PlineVertex, PlineViewData, Vector2, ViewDataValidation, segment, sheet, sqrt, view};
+use oracle::{
+    Library, Oracle, PlineVertex, PlineViewData, Vector2, ViewDataValidation, record, segment,
+    sheet, sqrt, view,
+};
 
 const H: [f64; 6] = [0.0, 0.0, 1.0, 1.0, 0.0, 0.0];
 const Q: [f64; 12] = [0.0, 0.0, 0.0, 4.0, 0.0, 0.5, 4.0, 4.0, 0.0, 0.0, 4.0, 0.0];
@@ -186,7 +189,7 @@ fn sheet_of(flags: u16, outline: &[f64], views: &[[f64; 6]]) -> Vec<u8> {
         for number in view {
             bytes.extend(number.to_le_bytes());
         }
-        bytes.extend([0; 8]); // direction and reserved
+        bytes.extend([0; 8]); // direction and cut number
     }
     bytes
 }
@@ -201,7 +204,7 @@ fn sheet_example() {
     let text = "\
 outline 2 1 open
 box 0000000000000000 bfe0000000000000 3ff0000000000000 0000000000000000
-view 0 7 cut 2
+view 0 7 cut 2 0
 0 0000000000000000 0000000000000000 3ff0000000000000
 1 3ff0000000000000 0000000000000000 0000000000000000
 ";
@@ -218,7 +221,7 @@ view 0 7 cut 2
     damaged.pop();
     damaged[22..24].copy_from_slice(&[0xf0, 0x7f]); // the first coordinate: infinite
     assert_eq!(sheet::sheet_text(&damaged), b"refused 1\n");
-    damaged[16 + 48 + 60] = 1; // reserved
+    damaged[16 + 48 + 56] = 2; // direction
     assert_eq!(sheet::sheet_text(&damaged), b"refused 12\n");
     damaged[2] = 4; // an unknown flag
     assert_eq!(sheet::sheet_text(&damaged), b"refused 11\n");
@@ -269,7 +272,7 @@ fn retired_flag() {
     let text = "\
 outline 2 1 open
 box 0000000000000000 bfe0000000000000 4010000000000000 4010000000000000 retired
-view 0 7 cut 2
+view 0 7 cut 2 0
 0 0000000000000000 0000000000000000 3ff0000000000000
 1 4008000000000000 4010000000000000 0000000000000000
 ";
@@ -278,7 +281,7 @@ view 0 7 cut 2
     // A refused sheet has no box line: 1, then 12 and 11 in front of it, as without the bit.
     bytes[22..24].copy_from_slice(&[0xf0, 0x7f]); // the first coordinate: infinite
     assert_eq!(text_of(&bytes), "refused 1\n");
-    bytes[16 + 48 + 60] = 1; // reserved
+    bytes[16 + 48 + 56] = 2; // direction
     assert_eq!(text_of(&bytes), "refused 12\n");
     for flags in 4..8 {
         bytes[2] = flags;
@@ -287,4 +290,44 @@ view 0 7 cut 2
     // Bit 1 of the flags' other byte is not the one that is retired.
     bytes[2..4].copy_from_slice(&[0, 2]);
     assert_eq!(text_of(&bytes), "refused 11\n");
+}
+
+/// The last four bytes of a record: any number, the last field of a line that is not refused.
+#[test]
+fn cut_numbers() {
+    let view = [0.0, 0.0, 1.0, 1.0, 1.0, 0.0];
+    let line = |bytes: &[u8]| text_of(bytes).lines().nth(2).unwrap().to_string();
+    for (number, decimal) in [
+        ([0, 0, 0, 0], "0"),
+        ([1, 0, 0, 0], "1"),
+        ([0, 1, 0, 0], "256"),
+        ([0xff, 0xff, 0xff, 0xff], "4294967295"),
+    ] {
+        let mut bytes = sheet_of(0, &H, &[view]);
+        let record = 16 + 48;
+        bytes[record + 60..].copy_from_slice(&number);
+        assert_eq!(line(&bytes), format!("view 0 7 cut 2 {decimal}"));
+        bytes[record + 40..record + 48].copy_from_slice(&3f64.to_le_bytes()); // the end's x
+        assert_eq!(line(&bytes), format!("view 0 4 hold 0 {decimal}"));
+        bytes[record] = 2; // the start index
+        assert_eq!(line(&bytes), "view 0 refused 4");
+    }
+
+    let record = record::encode(&r(), 7);
+    assert_eq!(record[60..], [7, 0, 0, 0]);
+    let (mut out, mut two) = ([0xa5; 64], [0xa5; 64]);
+    assert_eq!(Oracle.view_reverse(&Q, &record, &mut out), 0);
+    assert_eq!(Oracle.view_trim(&Q, &out, 1, 2, &mut two), 0);
+    assert_eq!((&out[60..], &two[60..]), (&record[60..], &record[60..]));
+    assert_eq!(
+        Oracle.view_from_new_start(&Q, 1, 1.0, 0.0, 0, 1e-5, &mut two),
+        0
+    );
+    assert_eq!(two[60..], [0; 4]);
+    out.fill(0xa5);
+    assert_eq!(
+        Oracle.view_create(&Q, 0, 2.0, 4.0, 2, &[1.0, 0.0, 0.0], 2, 1e-5, &mut out),
+        0
+    );
+    assert_eq!(out[60..], [0; 4]);
 }

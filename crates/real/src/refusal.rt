@@ -33,5 +33,5 @@ pub const NOT_CLOSED: u8 = 10;
 // A sheet's length, version, count, offset or flag is wrong.
 pub const BAD_SHEET: u8 = 11;
 
-// A sheet record's direction is not 0 or 1, or its reserved bytes are not 0.
+// A sheet record's direction is not 0 or 1.
 pub const BAD_RECORD: u8 = 12;

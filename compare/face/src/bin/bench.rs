@@ -309,7 +309,7 @@ fn views() {
                 end: [record.end_point.x, record.end_point.y],
                 start: record.start_index as u64,
                 traverse: record.end_index_offset.max(1) as u64,
-                record: encode(&record),
+                record: encode(&record, 0),
                 outline,
             });
         }
@@ -369,7 +369,7 @@ fn large() {
     let outline = largest_outline();
     for (direction, first) in [("forward", 0), ("inverted", 4)] {
         let records: Vec<[u8; 64]> = (0..250)
-            .map(|k| encode(&whole_view(&outline, first + 8 * k)))
+            .map(|k| encode(&whole_view(&outline, first + 8 * k), 0))
             .collect();
         let name = |call: &str| format!("{call} 2,000 vertices, {direction}");
         row!(
