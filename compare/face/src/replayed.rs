@@ -13,7 +13,7 @@ use std::process::{Child, ChildStdout, Stdio};
 
 // The limits of `replay`, in crates/replay/src/case.rt. No case has more words than this, and no buffer more places.
 const MOST: usize = 8192;
-const MOST_WHOLES: usize = 8;
+const MOST_WHOLES: usize = 16;
 const MOST_BYTES: usize = 256;
 
 /// What `replay` says of a case that does not fit.

@@ -130,18 +130,21 @@ module _ (s : List Float) where
 
 -- ---- the cut number
 
+abbrev numberOf : PlineViewData → ℕ
+numberOf d = d .«cut_number»
+
 module _ (s : List Float) where
   -- a record that a step answers has the number in the bytes that it was asked of
-  step-number : (t : Step) (b : List ℕ) (d′ : PlineViewData) → stepReply s t b ≡ given d′ → d′ .«cut_number» ≡ le32 b cutNumberAt
+  step-number : (t : Step) (b : List ℕ) (d′ : PlineViewData) → stepReply s t b ≡ given d′ → numberOf d′ ≡ le32 b cutNumberAt
   unfolding stepReply
   step-number turn b d′ e =
       let w = went-on (recordFrom b) (reverseOf double s) e in
-      ap (λ (r : PlineViewData). r .«cut_number») (sym (turned s (w .0) d′ (sym (w .2)) .is)) ∙ ap (λ (r : PlineViewData). r .«cut_number») (sym (read b (w .0) (w .1) .2))
+      sym (ap numberOf (read b (w .0) (w .1) .2) ∙ ap numberOf (turned s (w .0) d′ (sym (w .2)) .is))
   step-number (trim i j) b d′ e =
       let w = went-on (recordFrom b) (λ d. trimOf double s d i j) e in
-      ap (λ (r : PlineViewData). r .«cut_number») (sym (trimmed s (w .0) d′ i j (sym (w .2)) .is)) ∙ ap (λ (r : PlineViewData). r .«cut_number») (sym (read b (w .0) (w .1) .2))
+      sym (ap numberOf (read b (w .0) (w .1) .2) ∙ ap numberOf (trimmed s (w .0) d′ i j (sym (w .2)) .is))
 
-  after-number : (b : List ℕ) (r : Reply PlineViewData) → le32 b cutNumberAt < wordLimit → ((d : PlineViewData) → r ≡ given d → d .«cut_number» ≡ le32 b cutNumberAt) → le32 (bytesAfter b r) cutNumberAt ≡ le32 b cutNumberAt
+  after-number : (b : List ℕ) (r : Reply PlineViewData) → le32 b cutNumberAt < wordLimit → ((d : PlineViewData) → r ≡ given d → numberOf d ≡ le32 b cutNumberAt) → le32 (bytesAfter b r) cutNumberAt ≡ le32 b cutNumberAt
   after-number b (refused n) h f = refl
   after-number b (given d) h f = number-there d (subst (λ (n : ℕ). n < wordLimit) (sym (f d refl)) h) ∙ f d refl
 

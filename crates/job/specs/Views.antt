@@ -16,7 +16,7 @@ use Rattle.job.specs.Rows.{row, rowBytes, numbered}
 use Rattle.text.specs.Wrote.{Piece}
 use Rattle.job.specs.Lines.{refusedLine, viewHead, viewLine}
 
--- "view number, verdict, cut or hold, count; position, x, y, bulge"; "A hold view prints count 0 and no vertices.", and the record's cut number like any
+-- "view number, verdict, cut or hold, count; position, x, y, bulge"; "A hold view prints count 0 and no vertices." Of both the cut number is the last field
 unfoldable pub markText : List Float → PlineViewData → ℕ → ℕ → MarkCase → List ℕ
 markText s d k number cut = viewLine k number cut (vertices d) (d .«cut_number») ++ numbered row 0 (listed double s d)
 markText s d k number hold = viewLine k number hold 0 (d .«cut_number»)

@@ -158,7 +158,7 @@ pub fn run(k: u64, call: u64, n: u64) -> bool {
     let mut words = [0u64; MOST];
     let mut s = [0.0; MOST];
     let mut out = [0.0; MOST];
-    let mut whole = [0u64; 8];
+    let mut whole = [0u64; 16];
     let mut byte = [0u8; 256];
     read_words(&mut words, n);
     numbers(&words, 1, n, &mut s);
