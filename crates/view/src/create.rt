@@ -1,6 +1,7 @@
 // The crate's `PlineViewData::create`.
 use crate::check::both_less;
 use crate::ending::Ending;
+use crate::ending::forward_data;
 use crate::outline::serves_views;
 use crate::outline::vertex_at;
 use crate::outline::vertex_past;
@@ -77,15 +78,7 @@ fn ended_at(source: &[f64], start: usize, p: Vector2, first: PlineVertex, e: End
     if offset > source.len() / 3 {
         return ViewAnswer::Refused(BAD_OFFSET);
     }
-    ViewAnswer::Given(PlineViewData {
-        start_index: start,
-        end_index_offset: offset,
-        updated_start: first,
-        updated_end_bulge: e.bulge,
-        end_point: p,
-        inverted_direction: false,
-        cut_number: 0,
-    })
+    ViewAnswer::Given(forward_data(start, first, p, e))
 }
 
 fn all_in_range(source: &[f64], p: Vector2, first: PlineVertex) -> bool

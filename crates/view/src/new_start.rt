@@ -1,5 +1,6 @@
 // The crate's `PlineViewData::from_new_start`, on closed outlines.
 use crate::ending::Ending;
+use crate::ending::forward_data;
 use crate::outline::fwd_wrapping_index;
 use crate::outline::serves_views;
 use crate::outline::vertex_at;
@@ -69,16 +70,7 @@ fn round_from(source: &[f64], p: Vector2, k: usize, eps: f64) -> PlineViewData
 {
     let split = split_segment(source, k, p, eps);
     let e = round_ending(source, p, k, eps, split);
-    let first = split.split_vertex;
-    PlineViewData {
-        start_index: k,
-        end_index_offset: e.offset,
-        updated_start: first,
-        updated_end_bulge: e.bulge,
-        end_point: p,
-        inverted_direction: false,
-        cut_number: 0,
-    }
+    forward_data(k, split.split_vertex, p, e)
 }
 
 fn outline_and_point_in_range(source: &[f64], p: Vector2) -> bool

@@ -10,7 +10,7 @@ returns c = simp (lt-leb _ _ (c .if1 .taken))
 
 returns-2 : tie.Need-returns-2
 unfolding endedAt
-returns-2 c = simp (le-leb _ _ (c .if1 .left))
+returns-2 c = simp (le-leb _ _ (c .before .if1 .left), c .forward-data .ensures)
 
 pub ended-at-spec : {M : Type 1} → statement M
-ended-at-spec = tie.close (tie.spec returns returns-2)
+ended-at-spec = tie.close (tie.spec returns (λ c κs. tt) returns-2)
