@@ -18,8 +18,8 @@ use Rattle.job.specs.Lines.{refusedLine, viewHead, viewLine}
 
 -- "view number, verdict, cut or hold, count; position, x, y, bulge"; "A hold view prints count 0 and no vertices." Of both the cut number is the last field
 unfoldable pub markText : List Float → PlineViewData → ℕ → ℕ → MarkCase → List ℕ
-markText s d k number cut = viewLine k number cut (vertices d) (d .«cut_number») ++ numbered row 0 (listed double s d)
-markText s d k number hold = viewLine k number hold 0 (d .«cut_number»)
+markText s d k verdict cut = viewLine k verdict cut (vertices d) (d .«cut_number») ++ numbered row 0 (listed double s d)
+markText s d k verdict hold = viewLine k verdict hold 0 (d .«cut_number»)
 
 -- "A refused view prints `view k refused N`"; with a cut number too "a refused view's line is unchanged"
 unfoldable pub verdictText : Bool → List Float → PlineViewData → ℕ → Reply Verdict → List ℕ

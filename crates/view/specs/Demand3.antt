@@ -62,6 +62,7 @@ module _ (g : Grade) (s : List Float) where
     -- "no row of steps changes the number"
     pub number : (ts : List Step) → row g s ts d .«cut_number» ≡ d .«cut_number»
 
+-- a view as `create` and `from_new_start` make it
 pub record Made (g : Grade) (s : List Float) (d : PlineViewData) : Type 0 where
   pub demand3 : Demand3 g s d
   -- "`create` and `from_new_start` give 0"
