@@ -262,7 +262,7 @@ static void call_steps(void)
     say("P9", LIST, 0, list(Q, 12, at(&last)));
     say("trim R 0 to 3", RECORD, 0, bf_view_trim(Q, 12, at(&R), 64, 0, 3, out, 64));
     say("reverse R, cut number 1", RECORD, 0, bf_view_reverse(Q, 12, marked(0, 0, 1), 64, out, 64));
-    say("trim that 1 to 2", RECORD, 0, bf_view_trim(Q, 12, at(&last), 64, 1, 2, out, 64));
+    say("trim that 1 to 2, cut number 1", RECORD, 0, bf_view_trim(Q, 12, at(&last), 64, 1, 2, out, 64));
     say("trim R 1 to 3, the last cut number", RECORD, 0, bf_view_trim(Q, 12, marked(0, 0, 4294967295u), 64, 1, 3, out, 64));
 
     say("reverse, uneven bulges", RECORD, 0, bf_view_reverse(Q, 12, altered(0, 2, 0, 0.5), 64, out, 64));

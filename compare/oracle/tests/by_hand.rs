@@ -313,8 +313,8 @@ fn cut_numbers() {
         assert_eq!(line(&bytes), "view 0 refused 4");
     }
 
-    let record = record::encode(&r(), 7);
-    assert_eq!(record[60..], [7, 0, 0, 0]);
+    let record = record::encode(&r(), 0x0403_0201);
+    assert_eq!(record[60..], [1, 2, 3, 4]);
     let (mut out, mut two) = ([0xa5; 64], [0xa5; 64]);
     assert_eq!(Oracle.view_reverse(&Q, &record, &mut out), 0);
     assert_eq!(Oracle.view_trim(&Q, &out, 1, 2, &mut two), 0);

@@ -38,7 +38,7 @@ module _ (s : List Float) where
   bytesRow [] b = b
   bytesRow (t ∷ ts) b = bytesRow ts (bytesAfter b (stepReply t b))
 
-  -- "no row of steps changes the number": the last four bytes stay what they are
+  -- "no row of steps changes the number" that the last four bytes are
   abbrev pub NumberStays : List ℕ → Type 0
   NumberStays b = (ts : List Step) → le32 (bytesRow ts b) cutNumberAt ≡ le32 b cutNumberAt
 

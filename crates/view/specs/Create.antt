@@ -30,7 +30,7 @@ vertexBefore s k = vertexPast s k (countOf s - 1)
 abbrev pub ending : ℕ → Float → Ending
 ending offset b = record { offset = offset; bulge = b }
 
--- a forward record: "`create` and `from_new_start` give 0"
+-- a forward record with no cut number: "`create` and `from_new_start` give 0"
 abbrev pub forwardData : ℕ → PlineVertex → Vector2 → Ending → PlineViewData
 forwardData start first p e =
     record {
