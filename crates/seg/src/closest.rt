@@ -13,29 +13,54 @@ use plane::seg_in_range;
 use plane::tol_in_range;
 use real::BAD_NUMBER;
 use real::BAD_TOLERANCE;
+use real::RootedNumber;
+use real::counted_root;
 use real::magnitude;
-use real::root;
 ghost use mathlib.Core.Path.{_≡_};
+ghost use Rattle.real.specs.Roots.{counting, numberTally};
 ghost use Rattle.plane.specs.Grade.{double};
 ghost use Rattle.plane.specs.Vertex.{posOf};
 ghost use Rattle.seg.specs.Reply.{pointReply};
-ghost use Rattle.seg.specs.Closest.{radialScale, radialOf, nearerOf, arcClosest, closestOf, segClosest};
+ghost use Rattle.seg.specs.Closest.{pointTally, radialScaleBy, radialBy, nearerOf, arcClosestBy, closestBy, closestOf, segClosest};
 
-// What the radial is scaled by to reach the arc, from the squared chord c2 and the squared radial r2.
-fn radius_to_radial_length(bulge: f64, c2: f64, r2: f64) -> f64
-    ensures { λ r. ⌜ r ≡ radialScale double bulge c2 r2 ⌝ }
-{
-    let bulge_squared = bulge * bulge;
-    root(c2 / r2) * (1.0 + bulge_squared) * magnitude(inv_four_bulge(bulge))
+// A point, and how many square roots were taken for it.
+pub struct RootedPoint {
+    pub point: Vector2,
+    pub roots: u8,
 }
 
-fn radial_point(v1: PlineVertex, v2: PlineVertex, center: Vector2, p: Vector2) -> Vector2
-    ensures { λ r. ⌜ r ≡ radialOf double v1 v2 center p ⌝ }
+// A vertex's own point takes none.
+fn at_vertex(v: PlineVertex) -> RootedPoint
+    ensures { λ r. ⌜ pointTally r ≡ counting .done (posOf v) ⌝ }
+{
+    RootedPoint {
+        point: v.pos(),
+        roots: 0,
+    }
+}
+
+// What the radial is scaled by to reach the arc, from the squared chord c2 and the squared radial r2.
+fn radius_to_radial_length(bulge: f64, c2: f64, r2: f64) -> RootedNumber
+    ensures { λ r. ⌜ numberTally r ≡ radialScaleBy counting double bulge c2 r2 ⌝ }
+{
+    let ratio = counted_root(c2 / r2);
+    let bulge_squared = bulge * bulge;
+    RootedNumber {
+        number: ratio.number * (1.0 + bulge_squared) * magnitude(inv_four_bulge(bulge)),
+        roots: ratio.roots,
+    }
+}
+
+fn radial_point(v1: PlineVertex, v2: PlineVertex, center: Vector2, p: Vector2) -> RootedPoint
+    ensures { λ r. ⌜ pointTally r ≡ radialBy counting double v1 v2 center p ⌝ }
 {
     let radial = p.sub(center);
     let c2 = chord(v1, v2).length_squared();
     let k = radius_to_radial_length(v1.bulge, c2, radial.length_squared());
-    radial.scale(k).add(center)
+    RootedPoint {
+        point: radial.scale(k.number).add(center),
+        roots: k.roots,
+    }
 }
 
 // Whether the first vertex is the nearer one.
@@ -46,29 +71,47 @@ fn nearer(a: PlineVertex, b: PlineVertex, p: Vector2) -> bool
 }
 
 // The arc's case, with the centre at hand.
-fn arc_closest(v1: PlineVertex, v2: PlineVertex, center: Vector2, p: Vector2, eps: f64) -> Vector2
-    ensures { λ r. ⌜ r ≡ arcClosest double v1 v2 center p eps ⌝ }
+fn arc_closest(
+    v1: PlineVertex,
+    v2: PlineVertex,
+    center: Vector2,
+    p: Vector2,
+    eps: f64,
+) -> RootedPoint
+    ensures { λ r. ⌜ pointTally r ≡ arcClosestBy counting double v1 v2 center p eps ⌝ }
 {
     if p.fuzzy_eq_eps(center, eps) {
-        return v1.pos();
+        return at_vertex(v1);
     }
     if sweeps_over(v1, v2, center, p, eps) {
         return radial_point(v1, v2, center, p);
     }
     if nearer(v1, v2, p) {
-        return v1.pos();
+        return at_vertex(v1);
     }
-    v2.pos()
+    at_vertex(v2)
 }
 
-// The closest point, for any numbers and any tolerance.
-pub fn closest_point(v1: PlineVertex, v2: PlineVertex, p: Vector2, eps: f64) -> Vector2
-    ensures { λ r. ⌜ r ≡ closestOf double (double .line) v1 v2 p eps ⌝ }
+// The closest point and its roots, for any numbers and any tolerance.
+pub fn closest_point(v1: PlineVertex, v2: PlineVertex, p: Vector2, eps: f64) -> RootedPoint
+    ensures { λ r. ⌜ pointTally r ≡ closestBy counting double (double .line) v1 v2 p eps ⌝ }
 {
     if v1.bulge_is_zero() {
-        return line_seg_closest_point(v1.pos(), v2.pos(), p);
+        return RootedPoint {
+            point: line_seg_closest_point(v1.pos(), v2.pos(), p),
+            roots: 0,
+        };
     }
     arc_closest(v1, v2, arc_center(v1, v2), p, eps)
+}
+
+// The point alone.
+fn closest(v1: PlineVertex, v2: PlineVertex, p: Vector2, eps: f64) -> Vector2
+    ensures { λ r. ⌜ r ≡ closestOf double (double .line) v1 v2 p eps ⌝ }
+{
+    let closest = closest_point(v1, v2, p, eps);
+    let point = closest.point;
+    point
 }
 
 pub fn seg_closest_point(v1: PlineVertex, v2: PlineVertex, p: Vector2, eps: f64) -> PointAnswer
@@ -83,5 +126,5 @@ pub fn seg_closest_point(v1: PlineVertex, v2: PlineVertex, p: Vector2, eps: f64)
     if !tol_in_range(eps) {
         return PointAnswer::Refused(BAD_TOLERANCE);
     }
-    PointAnswer::Given(closest_point(v1, v2, p, eps))
+    PointAnswer::Given(closest(v1, v2, p, eps))
 }

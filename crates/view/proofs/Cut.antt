@@ -10,6 +10,7 @@ use lib.Ieee.{Float}
 use borrow.Author.Tests.{lt-ltb, le-ltb, ltb-true, ltb-false, le-leb, leb-false, lt-leb, not-false}
 use Rattle.real.specs.Refusal.{badNumber, badOutline, badIndex}
 use Rattle.real.specs.Reply.{Reply, given, check}
+use Rattle.real.specs.Roots.{plain}
 use Rattle.real.proofs.Replies.{and-both}
 use Rattle.plane.specs.Grade.{Grade}
 use Rattle.plane.specs.Vec.{vnearOf}
@@ -19,7 +20,7 @@ use Rattle.lists.specs.View.{wrapped}
 use Rattle.view.specs.Outline.{vertexOf, countOf, numbersOk, viewable}
 use Rattle.view.specs.Record.{recordOk, needed, vertices}
 use Rattle.view.specs.Segment.{onOutline}
-use Rattle.view.specs.Validation.{Verdict, cut, hold, noSegments, offsetOut, startOff, endOff, endOnVertex, bulgesDiffer, valid, bulgesMatch, endVerdict, placedVerdict, countedVerdict, validateOf, acrossGap, markOf, markAnswer}
+use Rattle.view.specs.Validation.{Verdict, cut, hold, noSegments, offsetOut, startOff, endOff, endOnVertex, bulgesDiffer, valid, bulgesMatch, endVerdict, placedBy, countsBy, validateBy, validateOf, acrossGap, markOf, markAnswer}
 use Rattle.view.specs.Answers.{listOf}
 use Rattle.view.specs.Cut.{Cut}
 use Rattle.view.specs.declared.view_data.PlineViewData.{PlineViewData}
@@ -62,7 +63,7 @@ module _ (closed : Bool) (g : Grade) (limit : Float) (s : List Float) (d : Pline
   last = wrapped (d .«start_index») (d .«end_index_offset») (countOf s)
 
   pub cut-says : markAnswer closed s d (validateOf g limit s d) ≡ given cut → Cut closed g limit s d
-  unfolding validateOf countedVerdict placedVerdict endVerdict markOf
+  unfolding validateBy countsBy placedBy endVerdict markOf
   cut-says e =
       let a = past-check (wholeOutline (length s)) badOutline _ e in
       let b = past-check (numbersOk g s && recordOk g d) badNumber _ (a .1) in
@@ -70,7 +71,7 @@ module _ (closed : Bool) (g : Grade) (limit : Float) (s : List Float) (d : Pline
       let two = past-given (ltb (countOf s) 2) noSegments _ refl (b .1) in
       let off = past-given (ltb (countOf s) (d .«end_index_offset»)) (offsetOut (d .«end_index_offset») (countOf s)) _ refl (two .1) in
       let st = past-check (ltb (d .«start_index») (countOf s)) badIndex _ (off .1) in
-      let given-cut : markOf closed s d (placedVerdict g limit s d) ≡ cut = cc (st .1) in
+      let given-cut : markOf closed s d (placedBy plain g limit s d) ≡ cut = cc (st .1) in
       let v3 = past-verdict (not (onOutline g limit s (d .«start_index») (posOf (d .«updated_start»)))) (startOff (posOf (d .«updated_start»))) _ refl given-cut in
       let v4 = past-verdict (not (onOutline g limit s last (d .«end_point»))) (endOff (d .«end_point»)) _ refl (v3 .1) in
       let v5 = past-verdict (vnearOf g (d .«end_point») (posOf (vertexOf s last)) (g .onVertex)) (endOnVertex (d .«end_point») (vertexOf s last)) _ refl (v4 .1) in
@@ -90,7 +91,7 @@ module _ (closed : Bool) (g : Grade) (limit : Float) (s : List Float) (d : Pline
       }
 
   pub cut-when : Cut closed g limit s d → markAnswer closed s d (validateOf g limit s d) ≡ given cut
-  unfolding validateOf countedVerdict placedVerdict endVerdict markOf
+  unfolding validateBy countsBy placedBy endVerdict markOf
   cut-when c =
       simp (c .whole, c .outline, c .numbers, le-ltb (countOf s) 2 (c .two), le-ltb (countOf s) (d .«end_index_offset») (c .offset), lt-ltb (d .«start_index») (countOf s) (c .start), c .on-start, c .on-end, c .apart, c .bulges, not-across s d closed (c .gap))
 

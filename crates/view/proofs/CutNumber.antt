@@ -13,7 +13,7 @@ use Rattle.view.specs.Outline.{countOf, viewable, numbersOk}
 use Rattle.view.specs.Record.{turnedOf, trimmedOf, vertices, evenBits, recordOk, readsOk}
 use Rattle.view.specs.Check.{placeOf, checkOf, evenOf}
 use Rattle.view.specs.Answers.{getVertexOf, vertexCountOf, listOf, listBuffer, written, reverseOf, trimOf}
-use Rattle.view.specs.Validation.{Verdict, bulgesMatch, endVerdict, placedVerdict, countedVerdict, validateOf, acrossGap, markOf, markAnswer}
+use Rattle.view.specs.Validation.{Verdict, bulgesMatch, endVerdict, placedBy, countsBy, validateBy, validateOf, acrossGap, markOf, markAnswer}
 use Rattle.view.specs.Rows.{after, step, row}
 use Rattle.view.specs.CutNumber.{withNumber, replyWith, Beside}
 use Rattle.view.specs.declared.view_data.PlineViewData.{PlineViewData}
@@ -65,7 +65,7 @@ module _ (g : Grade) (s : List Float) (n : ℕ) where
   marked d closed (given v) = refl
 
 pub beside : (g : Grade) (limit : Float) (s : List Float) (d : PlineViewData) (n : ℕ) → Beside g limit s d n
-unfolding getVertexOf vertexCountOf listOf listBuffer written placeOf checkOf recordOk readsOk validateOf countedVerdict placedVerdict endVerdict bulgesMatch
+unfolding getVertexOf vertexCountOf listOf listBuffer written placeOf checkOf recordOk readsOk validateBy countsBy placedBy endVerdict bulgesMatch
 beside g limit s d n =
     record {
       vertex = λ k. refl;

@@ -1,4 +1,4 @@
--- Laws of tests over an outline and of the checks, and the theorems: Demand3, Same, Shape, Table, Cut, CutNumber, OpenOutline, Made.
+-- Laws of tests over an outline and of the checks, and the theorems: Demand3, Same, Shape, Table, Cut, CutNumber, OpenOutline, Made, Roots, RootCases, Exact.
 pub mod All
 pub mod Checks
 pub mod Demand3
@@ -9,3 +9,6 @@ pub mod Cut
 pub mod CutNumber
 pub mod OpenOutline
 pub mod Made
+pub mod Roots
+pub mod RootCases
+pub mod Exact

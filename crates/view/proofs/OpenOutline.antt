@@ -21,7 +21,7 @@ use Rattle.lists.proofs.Along.{runs-along, before-last, stays-before, trim-befo
 use Rattle.view.specs.Outline.{countOf, srcOf, ofVert}
 use Rattle.view.specs.Record.{viewOf, turnedOf, trimmedOf, vertices, recordOk}
 use Rattle.view.specs.Segment.{onOutline}
-use Rattle.view.specs.Validation.{Verdict, cut, valid, bulgesMatch, endVerdict, placedVerdict, countedVerdict, validateOf, acrossGap, markOf, markAnswer}
+use Rattle.view.specs.Validation.{Verdict, cut, valid, bulgesMatch, endVerdict, placedBy, countsBy, validateBy, validateOf, acrossGap, markOf, markAnswer}
 use Rattle.view.specs.Answers.{reverseOf, trimOf}
 use Rattle.view.specs.Rows.{after, step, row}
 use Rattle.view.specs.Cut.{Cut}
@@ -71,7 +71,7 @@ module _ (g : Grade) (limit : Float) (s : List Float) where
 
     -- neither the verdict nor the gap looks at the direction
     same-verdict : validateOf g limit s (turnedOf d) ≡ validateOf g limit s d
-    unfolding turnView validateOf countedVerdict placedVerdict endVerdict bulgesMatch recordOk
+    unfolding turnView validateBy countsBy placedBy endVerdict bulgesMatch recordOk
     same-verdict = refl
 
     same-mark : (closed : Bool) (r : Reply Verdict) → markAnswer closed s (turnedOf d) r ≡ markAnswer closed s d r

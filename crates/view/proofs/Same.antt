@@ -53,8 +53,8 @@ case-of-verdict crate.IsValid = refl
 
 pub validation-same : (a b : ValidationAnswer) → validationReply a ≡ validationReply b → a ≡ b
 validation-same =
-    told (elim [ given v ↦ validation.Given (caseOf v) | refused n ↦ validation.Refused n ])
-    (elim [ validation.Given v ↦ ap validation.Given (case-of-verdict v) | validation.Refused n ↦ refl ])
+    told (elim [ given t ↦ validation.Given (record { verdict = caseOf (t .value); roots = t .roots }) | refused n ↦ validation.Refused n ])
+    (elim [ validation.Given j ↦ ap (λ (v : ViewDataValidation). validation.Given (record { verdict = v; roots = j .roots })) (case-of-verdict (j .verdict)) | validation.Refused n ↦ refl ])
 
 pub mark-same : (a b : MarkAnswer) → markReply a ≡ markReply b → a ≡ b
 mark-same =

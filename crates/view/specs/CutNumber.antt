@@ -10,7 +10,7 @@ use Rattle.plane.specs.Grade.{Grade}
 use Rattle.lists.specs.Plain.{Step}
 use Rattle.view.specs.Record.{viewOf, dataOf}
 use Rattle.view.specs.Answers.{getVertexOf, vertexCountOf, listOf, listBuffer, reverseOf, trimOf}
-use Rattle.view.specs.Validation.{validateOf, markAnswer}
+use Rattle.view.specs.Validation.{validateOf, validateCounted, markAnswer}
 use Rattle.view.specs.Rows.{row}
 use Rattle.view.specs.declared.view_data.PlineViewData.{PlineViewData}
 
@@ -25,12 +25,12 @@ replyWith n (given d) = given (withNumber n d)
 
 -- what the calls answer to d under any cut number n
 pub record Beside (g : Grade) (limit : Float) (s : List Float) (d : PlineViewData) (n : ℕ) : Type 0 where
-  -- "Demand 2 compares the crate's fields only": the same vertices, list, verdict and mark
+  -- "Demand 2 compares the crate's fields only": the same vertices, list, verdict with its roots, and mark
   pub vertex : (k : ℕ) → getVertexOf g s (withNumber n d) k ≡ getVertexOf g s d k
   pub count : vertexCountOf g s (withNumber n d) ≡ vertexCountOf g s d
   pub list : (m : ℕ) → listOf g s (withNumber n d) m ≡ listOf g s d m
   pub buffer : (out : List Float) → listBuffer g s (withNumber n d) out ≡ listBuffer g s d out
-  pub verdict : validateOf g limit s (withNumber n d) ≡ validateOf g limit s d
+  pub verdict : validateCounted g limit s (withNumber n d) ≡ validateCounted g limit s d
   pub mark : (closed : Bool) → markAnswer closed s (withNumber n d) (validateOf g limit s (withNumber n d)) ≡ markAnswer closed s d (validateOf g limit s d)
   -- "Reversal and trim keep it": the same record, under that number
   pub reversed : reverseOf g s (withNumber n d) ≡ replyWith n (reverseOf g s d)

@@ -6,10 +6,12 @@ pub mod Needs
 pub mod Create
 pub mod Check
 pub mod Answers
+pub mod Exact
 pub mod Rows
 pub mod CutNumber
 pub mod Demand3
 pub mod Cases
+pub mod Roots
 pub mod Cut
 pub mod OpenOutline
 pub mod Table

@@ -8,6 +8,7 @@ use Rattle.plane.specs.Range.{mostVertices}
 use Rattle.view.specs.Outline.{countOf}
 use Rattle.view.specs.Record.{vertices, needed}
 use Rattle.view.specs.declared.view_data.PlineViewData.{PlineViewData}
+use Rattle.view.specs.declared.segment.RootedTest.{RootedTest}
 
 -- an index below the vertex count, and steps of at most one round
 pub record Wraps (index steps n : ℕ) : Type 0 where
@@ -57,3 +58,8 @@ pub record Index (s : List Float) (k : ℕ) : Type 0 where
 pub record Ends (s : List Float) (at traverse : ℕ) : Type 0 where
   pub at-index : Index s at
   pub some : 0 < traverse
+
+-- the end's test, and the start's roots: at most one each
+pub record FewRoots (ended : RootedTest) (roots : ℕ) : Type 0 where
+  pub last : ended .roots ≤ 1
+  pub first : roots ≤ 1

@@ -7,6 +7,7 @@ use lib.ListN.{length}
 use lib.Ieee.{Float}
 use Rattle.real.specs.Refusal.{badNumber, badOutline, badIndex}
 use Rattle.real.specs.Reply.{Reply, refused, given, check}
+use Rattle.real.specs.Roots.{Way, Tally, tally, plain, counting}
 use Rattle.plane.specs.Grade.{Grade}
 use Rattle.plane.specs.Vec.{nearOf, vnearOf}
 use Rattle.plane.specs.Vertex.{posOf}
@@ -16,10 +17,11 @@ use Rattle.plane.specs.declared.pline_vertex.PlineVertex.{PlineVertex}
 use Rattle.lists.specs.View.{wrapped}
 use Rattle.view.specs.Outline.{vertexOf, countOf, numbersOk}
 use Rattle.view.specs.Record.{recordOk}
-use Rattle.view.specs.Segment.{onOutline}
+use Rattle.view.specs.Segment.{onOutlineBy}
 use Rattle.view.specs.declared.view_data.PlineViewData.{PlineViewData}
 use Rattle.view.specs.declared.validation.ViewDataValidation.{ViewDataValidation}
 use Rattle.view.specs.declared.validation.ViewDataValidation.the-variants as crate
+use Rattle.view.specs.declared.validation.Judgement.{Judgement}
 use Rattle.view.specs.declared.validation.ValidationAnswer.{ValidationAnswer}
 use Rattle.view.specs.declared.validation.ValidationAnswer.the-variants as validation
 use Rattle.view.specs.declared.validation.Mark.{Mark}
@@ -67,8 +69,13 @@ verdictOf (crate.EndPointOnFinalOffsetVertex p v) = endOnVertex p v
 verdictOf (crate.UpdatedBulgeDoesNotMatch updated expected) = bulgesDiffer updated expected
 verdictOf crate.IsValid = valid
 
-abbrev pub validationReply : ValidationAnswer → Reply Verdict
-validationReply (validation.Given v) = given (verdictOf v)
+-- a verdict, and the roots that it took
+abbrev pub judgedTally : Judgement → Tally Verdict
+judgedTally j = tally (verdictOf (j .verdict)) (j .roots)
+
+-- "a refused call reports no count"
+abbrev pub validationReply : ValidationAnswer → Reply (Tally Verdict)
+validationReply (validation.Given j) = given (judgedTally j)
 validationReply (validation.Refused n) = refused n
 
 module _ (g : Grade) where
@@ -84,29 +91,44 @@ module _ (g : Grade) where
       (cond (not (bulgesMatch d)) (bulgesDiffer (d .«updated_end_bulge») (d .«updated_start» .bulge))
       valid))
 
-  module _ (limit : Float) where
-    -- verdicts 3 to 7
-    unfoldable pub placedVerdict : List Float → PlineViewData → Verdict
-    placedVerdict s d =
-        let first = posOf (d .«updated_start») in
-        let last = wrapped (d .«start_index») (d .«end_index_offset») (countOf s) in
-        cond (not (onOutline g limit s (d .«start_index») first)) (startOff first)
-        (endVerdict d (onOutline g limit s last (d .«end_point»)) (vertexOf s last))
+-- over a way w of taking roots
+module _ (w : Way) (g : Grade) (limit : Float) where
+  open Way w using (Step, done, _>>=_)
 
-    -- verdicts 1 and 2; "After verdicts 1 and 2 comes refusal 4."
-    unfoldable pub countedVerdict : List Float → PlineViewData → Reply Verdict
-    countedVerdict s d =
-        cond (ltb (countOf s) 2) (given noSegments)
-        (cond (ltb (countOf s) (d .«end_index_offset»)) (given (offsetOut (d .«end_index_offset») (countOf s)))
-        (check (ltb (d .«start_index») (countOf s)) badIndex
-        (given (placedVerdict s d))))
+  -- verdicts 3 to 7
+  unfoldable pub placedBy : List Float → PlineViewData → Step Verdict
+  placedBy s d =
+      let first = posOf (d .«updated_start») in
+      let last = wrapped (d .«start_index») (d .«end_index_offset») (countOf s) in
+      do
+        started ← onOutlineBy w g limit s (d .«start_index») first
+        cond (not started) (done (startOff first)) do
+          ended ← onOutlineBy w g limit s last (d .«end_point»)
+          done (endVerdict g d ended (vertexOf s last))
 
-    -- 3 (but "under two vertices, for any view call but validation"), then 1
-    unfoldable pub validateOf : List Float → PlineViewData → Reply Verdict
-    validateOf s d =
-        check (wholeOutline (length s)) badOutline
-        (check (numbersOk g s && recordOk g d) badNumber
-        (countedVerdict s d))
+  -- verdicts 1 and 2; "After verdicts 1 and 2 comes refusal 4."
+  unfoldable pub countsBy : List Float → PlineViewData → Reply (Step Verdict)
+  countsBy s d =
+      cond (ltb (countOf s) 2) (given (done noSegments))
+      (cond (ltb (countOf s) (d .«end_index_offset»)) (given (done (offsetOut (d .«end_index_offset») (countOf s))))
+      (check (ltb (d .«start_index») (countOf s)) badIndex
+      (given (placedBy s d))))
+
+  -- 3 (but "under two vertices, for any view call but validation"), then 1
+  unfoldable pub validateBy : List Float → PlineViewData → Reply (Step Verdict)
+  validateBy s d =
+      check (wholeOutline (length s)) badOutline
+      (check (numbersOk g s && recordOk g d) badNumber
+      (countsBy s d))
+
+module _ (g : Grade) (limit : Float) where
+  -- the verdict alone
+  abbrev pub validateOf : List Float → PlineViewData → Reply Verdict
+  validateOf = validateBy plain g limit
+
+  -- the verdict, and "how many square roots it took [...], equal to the number its definition takes along that path"
+  abbrev pub validateCounted : List Float → PlineViewData → Reply (Tally Verdict)
+  validateCounted = validateBy counting g limit
 
 -- ---- the mark
 

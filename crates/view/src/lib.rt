@@ -13,6 +13,7 @@ mod validate;
 mod validation;
 mod view_data;
 
+pub use validation::Judgement;
 pub use validation::Mark;
 pub use validation::MarkAnswer;
 pub use validation::ValidationAnswer;

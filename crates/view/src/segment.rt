@@ -7,9 +7,16 @@ use seg::SplitResult;
 use seg::closest_point;
 use seg::split_at_point;
 ghost use mathlib.Core.Path.{_≡_};
+ghost use Rattle.real.specs.Roots.{counting};
 ghost use Rattle.plane.specs.Grade.{double};
 ghost use Rattle.view.specs.Needs.{Index};
-ghost use Rattle.view.specs.Segment.{nearEnd, nearClosest, onSegmentOf, onOutline, splitSegment};
+ghost use Rattle.view.specs.Segment.{testTally, nearEnd, nearClosestBy, onSegmentBy, onOutlineBy, splitSegment};
+
+// Whether a point is on a segment, and how many square roots it took to tell.
+pub struct RootedTest {
+    pub on: bool,
+    pub roots: u8,
+}
 
 // An end that is nearer to a vertex than this sits on it.
 pub const ON_VERTEX: f64 = 1e-5;
@@ -23,22 +30,30 @@ fn near_an_end(v1: PlineVertex, v2: PlineVertex, p: Vector2) -> bool
     p.fuzzy_eq_eps(v1.pos(), ON_SEGMENT) || p.fuzzy_eq_eps(v2.pos(), ON_SEGMENT)
 }
 
-fn near_closest_point(v1: PlineVertex, v2: PlineVertex, p: Vector2) -> bool
-    ensures { λ r. ⌜ r ≡ nearClosest double (double .line) v1 v2 p ⌝ }
+fn near_closest_point(v1: PlineVertex, v2: PlineVertex, p: Vector2) -> RootedTest
+    ensures { λ r. ⌜ testTally r ≡ nearClosestBy counting double (double .line) v1 v2 p ⌝ }
 {
-    closest_point(v1, v2, p, ON_VERTEX).fuzzy_eq_eps(p, ON_SEGMENT)
+    let closest = closest_point(v1, v2, p, ON_VERTEX);
+    let point = closest.point;
+    RootedTest {
+        on: point.fuzzy_eq_eps(p, ON_SEGMENT),
+        roots: closest.roots,
+    }
 }
 
-fn is_on_segment(v1: PlineVertex, v2: PlineVertex, p: Vector2) -> bool
-    ensures { λ r. ⌜ r ≡ onSegmentOf double (double .line) v1 v2 p ⌝ }
+fn is_on_segment(v1: PlineVertex, v2: PlineVertex, p: Vector2) -> RootedTest
+    ensures { λ r. ⌜ testTally r ≡ onSegmentBy counting double (double .line) v1 v2 p ⌝ }
 {
-    near_an_end(v1, v2, p) || near_closest_point(v1, v2, p)
+    if near_an_end(v1, v2, p) {
+        return RootedTest { on: true, roots: 0 };
+    }
+    near_closest_point(v1, v2, p)
 }
 
 // Whether a point lies on segment k of an outline.
-pub fn point_is_on_segment(source: &[f64], k: usize, p: Vector2) -> bool
+pub fn point_is_on_segment(source: &[f64], k: usize, p: Vector2) -> RootedTest
     requires { ⌜ Index (now source) k ⌝ }
-    ensures { λ r. ⌜ r ≡ onOutline double (double .line) (now (source .entry)) k p ⌝ }
+    ensures { λ r. ⌜ testTally r ≡ onOutlineBy counting double (double .line) (now (source .entry)) k p ⌝ }
 {
     let v1 = vertex_at(source, k);
     is_on_segment(v1, vertex_past(source, k, 1), p)

@@ -3,7 +3,9 @@ use crate::check::numbers_in_range;
 use crate::outline::fwd_wrapping_index;
 use crate::outline::vertex_at;
 use crate::segment::ON_VERTEX;
+use crate::segment::RootedTest;
 use crate::segment::point_is_on_segment;
+use crate::validation::Judgement;
 use crate::validation::MarkAnswer;
 use crate::validation::ValidationAnswer;
 use crate::validation::ViewDataValidation;
@@ -15,12 +17,13 @@ use real::BAD_INDEX;
 use real::BAD_NUMBER;
 use real::BAD_OUTLINE;
 ghost use mathlib.Core.Path.{_≡_};
-ghost use Prim.Native.Nat.{_≤_};
+ghost use Prim.Native.Nat.{_+_, _≤_};
+ghost use Rattle.real.specs.Roots.{tally, counting};
 ghost use Rattle.plane.specs.Grade.{double};
 ghost use Rattle.plane.specs.Range.{mostVertices};
 ghost use Rattle.view.specs.Outline.{countOf};
-ghost use Rattle.view.specs.Needs.{Placed};
-ghost use Rattle.view.specs.Validation.{verdictOf, validationReply, bulgesMatch, endVerdict, placedVerdict, countedVerdict, validateOf, markReply, markAnswer};
+ghost use Rattle.view.specs.Needs.{Placed, FewRoots};
+ghost use Rattle.view.specs.Validation.{verdictOf, judgedTally, validationReply, bulgesMatch, endVerdict, placedBy, countsBy, validateOf, validateCounted, markReply, markAnswer};
 
 // Whether the bulges of a view on one segment match; a longer view has nothing to match.
 fn bulges_match(d: PlineViewData) -> bool
@@ -58,39 +61,60 @@ fn judge_end(d: PlineViewData, on: bool, v: PlineVertex) -> ViewDataValidation
     ViewDataValidation::IsValid
 }
 
+// Verdicts 4 to 7, with the roots of the start's test and of the end's.
+fn judge_ended(d: PlineViewData, ended: RootedTest, v: PlineVertex, roots: u8) -> Judgement
+    requires { ⌜ FewRoots ended roots ⌝ }
+    ensures { λ r. ⌜ judgedTally r ≡ tally (endVerdict double d (ended .on) v) (roots + ended .roots) ⌝ }
+{
+    Judgement {
+        verdict: judge_end(d, ended.on, v),
+        roots: roots + ended.roots,
+    }
+}
+
 // Verdicts 3 to 7.
-fn judge(source: &[f64], d: PlineViewData) -> ViewDataValidation
+fn judge(source: &[f64], d: PlineViewData) -> Judgement
     requires { ⌜ Placed (now source) d ⌝ }
-    ensures { λ r. ⌜ verdictOf r ≡ placedVerdict double (double .line) (now (source .entry)) d ⌝ }
+    ensures { λ r. ⌜ judgedTally r ≡ placedBy counting double (double .line) (now (source .entry)) d ⌝ }
 {
     let count = source.len() / 3;
     let start = d.start_index;
     let first = d.updated_start;
     let p = first.pos();
-    if !point_is_on_segment(source, start, p) {
-        return ViewDataValidation::UpdatedStartNotOnSegment { start_point: p };
+    let started = point_is_on_segment(source, start, p);
+    if !started.on {
+        return Judgement {
+            verdict: ViewDataValidation::UpdatedStartNotOnSegment { start_point: p },
+            roots: started.roots,
+        };
     }
     let last = fwd_wrapping_index(start, d.end_index_offset, count);
     let end = d.end_point;
-    let on = point_is_on_segment(source, last, end);
-    judge_end(d, on, vertex_at(source, last))
+    let ended = point_is_on_segment(source, last, end);
+    judge_ended(d, ended, vertex_at(source, last), started.roots)
 }
 
 // Verdicts 1 and 2, then refusal 4, then the others.
 fn judge_counts(source: &[f64], d: PlineViewData) -> ValidationAnswer
     requires { ⌜ countOf (now source) ≤ mostVertices ⌝ }
-    ensures { λ r. ⌜ validationReply r ≡ countedVerdict double (double .line) (now (source .entry)) d ⌝ }
+    ensures { λ r. ⌜ validationReply r ≡ countsBy counting double (double .line) (now (source .entry)) d ⌝ }
 {
     let count = source.len() / 3;
     let offset = d.end_index_offset;
     let start = d.start_index;
     if count < 2 {
-        return ValidationAnswer::Given(ViewDataValidation::SourceHasNoSegments);
+        return ValidationAnswer::Given(Judgement {
+            verdict: ViewDataValidation::SourceHasNoSegments,
+            roots: 0,
+        });
     }
     if count < offset {
-        return ValidationAnswer::Given(ViewDataValidation::OffsetOutOfRange {
-            offset,
-            source_length: count,
+        return ValidationAnswer::Given(Judgement {
+            verdict: ViewDataValidation::OffsetOutOfRange {
+                offset,
+                source_length: count,
+            },
+            roots: 0,
         });
     }
     if start >= count {
@@ -100,9 +124,9 @@ fn judge_counts(source: &[f64], d: PlineViewData) -> ValidationAnswer
 }
 
 impl PlineViewData {
-    // The crate's verdict on the record over an outline.
+    // The crate's verdict on the record over an outline, and how many square roots it took.
     pub fn validate_for_source(self, source: &[f64]) -> ValidationAnswer
-        ensures { λ r. ⌜ validationReply r ≡ validateOf double (double .line) (now (source .entry)) self ⌝ }
+        ensures { λ r. ⌜ validationReply r ≡ validateCounted double (double .line) (now (source .entry)) self ⌝ }
     {
         if !outline_is_whole(source) {
             return ValidationAnswer::Refused(BAD_OUTLINE);
@@ -119,11 +143,10 @@ impl PlineViewData {
     {
         let answer = self.validate_for_source(source);
         match answer {
-            ValidationAnswer::Given(verdict) => MarkAnswer::Given(verdict.mark(
-                self,
-                source,
-                closed,
-            )),
+            ValidationAnswer::Given(judged) => {
+                let verdict = judged.verdict;
+                MarkAnswer::Given(verdict.mark(self, source, closed))
+            }
             ValidationAnswer::Refused(n) => MarkAnswer::Refused(n),
         }
     }

@@ -29,8 +29,14 @@ pub enum ViewDataValidation {
     IsValid,
 }
 
+// A verdict, and how many square roots it took.
+pub struct Judgement {
+    pub verdict: ViewDataValidation,
+    pub roots: u8,
+}
+
 pub enum ValidationAnswer {
-    Given(ViewDataValidation),
+    Given(Judgement),
     Refused(u8),
 }
 

@@ -1,20 +1,20 @@
 -- The test is the definition's; the line has its ends, and the arc its centre, by their promises.
 use Rattle.real.proofs.Pick.{yes, no}
-use Rattle.seg.specs.Closest.{closestOf}
+use Rattle.seg.specs.Closest.{closestBy}
 use Rattle.seg.proofs.closest.closest_point.Statement.{statement}
 use Rattle.seg.proofs.closest.closest_point.Tie as tie
 
 on-line : tie.Need-returns
-unfolding closestOf
+unfolding closestBy
 on-line c =
     let at-pos2 = c .before in
     let at-pos = at-pos2 .before in
     let at-if1 = at-pos .before in
     let at-bulge-is-zero = at-if1 .before in
-    yes _ (at-bulge-is-zero .bulge-is-zero .ensures) (at-if1 .if1 .taken) (rw (at-pos .pos .ensures, at-pos2 .pos2 .ensures) at (c .line-seg-closest-point .ensures))
+    yes _ (at-bulge-is-zero .bulge-is-zero .ensures) (at-if1 .if1 .taken) (simp (at-pos .pos .ensures, at-pos2 .pos2 .ensures, c .line-seg-closest-point .ensures))
 
 on-arc : tie.Need-returns-2
-unfolding closestOf
+unfolding closestBy
 on-arc c =
     let at-arc-center = c .before in
     let at-if1 = at-arc-center .before in
