@@ -116,7 +116,7 @@ impl Call {
             Call::ViewCreate | Call::ViewFromNewStart | Call::ViewReverse | Call::ViewTrim => {
                 (0, 0, 64)
             }
-            Call::ViewValidate => (5, 3, 0),
+            Call::ViewValidate => (5, 4, 0),
             Call::ViewCount => (0, 1, 0),
             Call::ViewList => (0, 1, 0),
         }
@@ -290,9 +290,13 @@ impl Outcome {
         }
     }
 
-    /// The verdict of a validation that answered.
+    /// The verdict of a validation that answered, and the square roots that it took.
     pub fn verdict(&self) -> usize {
         self.wholes.places[0] as usize
+    }
+
+    pub fn roots(&self) -> usize {
+        self.wholes.places[3] as usize
     }
 }
 

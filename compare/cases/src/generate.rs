@@ -793,7 +793,7 @@ impl Generator {
         let case = Case::new(call).numbers(&outline);
         match call {
             Call::ViewValidate => {
-                let case = case.bytes(&bytes).room(self.room(3));
+                let case = case.bytes(&bytes).room(self.room(4));
                 case.room(self.room(5))
             }
             Call::ViewMark => {

@@ -13,8 +13,9 @@ pub struct Report {
     pub shown: Vec<String>,
     /// How often the oracle gave each refusal to each call.
     reached: [[u64; 13]; 19],
-    /// How often it gave each verdict.
+    /// How often it gave each verdict, and how often its verdicts took 0, 1 and 2 square roots.
     verdicts: [u64; 8],
+    roots: [u64; 3],
     /// How often each kind of line stood in its sheets.
     lines: BTreeMap<String, u64>,
 }
@@ -73,6 +74,7 @@ impl Report {
         self.reached[case.call as usize][usize::from(expected.refusal)] += 1;
         if case.call == Call::ViewValidate && expected.refusal == 0 {
             self.verdicts[expected.verdict()] += 1;
+            self.roots[expected.roots()] += 1;
         }
         let equal = expected == found;
         if !equal {
@@ -117,6 +119,11 @@ impl Report {
                 gaps.push(format!("verdict {verdict}: never"));
             }
         }
+        for (roots, times) in self.roots.iter().enumerate() {
+            if *times == 0 {
+                gaps.push(format!("{roots} roots: never"));
+            }
+        }
         if !self.lines.keys().eq(&LINES) {
             gaps.push(format!("lines of sheets: {:?}", self.lines));
         }
@@ -137,6 +144,10 @@ impl Report {
         table += "verdicts                    ";
         for verdict in 1..8 {
             table += &format!(" {verdict}:{}", self.verdicts[verdict]);
+        }
+        table += "\nroots of a verdict          ";
+        for (roots, times) in self.roots.iter().enumerate() {
+            table += &format!(" {roots}:{times}");
         }
         table += "\nlines of sheets\n";
         for (kind, times) in &self.lines {

@@ -113,7 +113,7 @@ fn by_hand() -> Vec<Case> {
         case.number(x).number(y).room(2)
     };
     let on_q = |call, record: &PlineViewData| Case::new(call).numbers(&Q).bytes(&encode(record, 0));
-    let validate = |record: &PlineViewData| on_q(Call::ViewValidate, record).room(3).room(5);
+    let validate = |record: &PlineViewData| on_q(Call::ViewValidate, record).room(4).room(5);
     let list = |record: &PlineViewData| on_q(Call::ViewList, record).room(12).room(1);
     vec![
         seg(Call::SegArcRadiusAndCenter, &h).room(3),
@@ -159,7 +159,7 @@ pub fn long() -> Vec<Case> {
         on_limit(Call::ViewList, &inverted)
             .room(3 * 2002 - 1)
             .room(1),
-        on_limit(Call::ViewValidate, &inverted).room(3).room(5),
+        on_limit(Call::ViewValidate, &inverted).room(4).room(5),
         on_limit(Call::ViewGet, &inverted).whole(1500).room(3),
         on_limit(Call::ViewTrim, &inverted)
             .whole(100)
@@ -222,7 +222,7 @@ pub fn round() -> Vec<Case> {
             cases.push(on_q(Call::ViewTrim).whole(i).whole(5).room(64));
         }
         cases.push(on_q(Call::ViewList).room(18).room(1));
-        cases.push(on_q(Call::ViewValidate).room(3).room(5));
+        cases.push(on_q(Call::ViewValidate).room(4).room(5));
     }
     cases
 }
@@ -317,11 +317,50 @@ pub fn numbered() -> Vec<Case> {
         cases.push(on_q(Call::ViewList).room(12).room(1));
         cases.push(on_q(Call::ViewGet).whole(1).room(3));
         cases.push(on_q(Call::ViewCount).room(1));
-        cases.push(on_q(Call::ViewValidate).room(3).room(5));
+        cases.push(on_q(Call::ViewValidate).room(4).room(5));
         let mark = Case::new(Call::ViewMark).numbers(&Q).whole(1);
         cases.push(mark.bytes(&record).room(1));
     }
     cases
+}
+
+/// The half circle about (5,0) from (0,0) to (10,0), below the line between them, and that line back.
+pub const ARCH: [f64; 6] = [0.0, 0.0, 1.0, 10.0, 0.0, 0.0];
+
+/// Verdicts by the square roots that they take. Along the half circle: none from end to end, one to a point between, two
+/// between two such points; one and none where the start is off it and at its centre; two where the end is off it. Along
+/// the line back none, and none within 0.001 mm of an end. Then on Q, whose outline has lines and an arc; last a buffer of
+/// three words.
+pub fn rooted() -> Vec<Case> {
+    let along = |start_index, [x, y]: [f64; 2], [end_x, end_y]: [f64; 2], bulge| PlineViewData {
+        start_index,
+        end_index_offset: 0,
+        updated_start: PlineVertex::new(x, y, bulge),
+        updated_end_bulge: bulge,
+        end_point: Vector2::new(end_x, end_y),
+        inverted_direction: false,
+    };
+    let arch = |from, to| along(0, from, to, 1.0);
+    let validate = |outline: &[f64], record: &PlineViewData, words| {
+        let case = Case::new(Call::ViewValidate).numbers(outline);
+        case.bytes(&encode(record, 0)).room(words).room(5)
+    };
+    let on_arch = |record: PlineViewData| validate(&ARCH, &record, 4);
+    vec![
+        on_arch(arch([0.0, 0.0], [10.0, 0.0])),
+        on_arch(arch([0.0, 0.0], [8.0, -4.0])),
+        on_arch(arch([2.0, -4.0], [8.0, -4.0])),
+        on_arch(arch([5.0, -4.0], [8.0, -4.0])),
+        on_arch(arch([5.0, 0.0], [8.0, -4.0])),
+        on_arch(arch([2.0, -4.0], [5.0, -4.0])),
+        on_arch(along(1, [8.0, 0.0], [2.0, 0.0], 0.0)),
+        on_arch(arch([0.0009, 0.0009], [8.0, -4.0])),
+        on_arch(arch([0.0, -0.0011], [8.0, -4.0])),
+        validate(&Q, &along_q(0, 2, false), 4),
+        validate(&Q, &along_q(1, 2, true), 4),
+        validate(&Q, &along_q(0, 5, false), 4),
+        validate(&ARCH, &arch([2.0, -4.0], [8.0, -4.0]), 3),
+    ]
 }
 
 /// The whole stored list.
@@ -335,6 +374,7 @@ pub fn all() -> Vec<Case> {
         round(),
         gap(),
         turned(),
+        rooted(),
     ];
     parts.concat()
 }

@@ -55,6 +55,13 @@ enum Fault {
     TrimKeepsHalfTheNumber,
     CreateKeepsAnOldNumber,
     NewStartKeepsAnOldNumber,
+    // The roots of a verdict.
+    OnlyOneRootCounted,
+    RootOfAnUnplacedStartNotCounted,
+    LineTakesARoot,
+    PointNearAnEndTakesARoot,
+    NoRootsReported,
+    ThreeWordsAreRoom,
     // Rows of splits.
     SplitAnUlpOverTheHalfCircle,
     SplitHalfCircleRefused,
@@ -66,6 +73,25 @@ struct Spoilt(Fault);
 impl Spoilt {
     fn is(&self, fault: Fault) -> bool {
         self.0 == fault
+    }
+
+    /// The roots that are reported for a verdict that took so many.
+    fn roots(&self, outline: &[f64], bytes: &[u8], verdict: u64, roots: u64) -> u64 {
+        let record = record::decode(bytes).unwrap();
+        let vertex = |k: usize| &outline[3 * (k % (outline.len() / 3))..][..3];
+        let start = record.start_index;
+        match self.0 {
+            Fault::OnlyOneRootCounted => roots.min(1),
+            Fault::RootOfAnUnplacedStartNotCounted if verdict == 3 => 0,
+            Fault::LineTakesARoot if verdict > 2 && vertex(start)[2] == 0.0 => roots.max(1),
+            Fault::PointNearAnEndTakesARoot if verdict > 2 => {
+                let p = record.updated_start.pos();
+                let near = |v: &[f64]| p.fuzzy_eq_eps(Vector2::new(v[0], v[1]), 1e-3);
+                roots.max(u64::from(near(vertex(start)) || near(vertex(start + 1))))
+            }
+            Fault::NoRootsReported => 0,
+            _ => roots,
+        }
     }
 
     /// The list of a record that lists, if it is inverted.
@@ -279,10 +305,19 @@ impl Library for Spoilt {
         whole: &mut [u64],
         out: &mut [f64],
     ) -> u8 {
+        if self.is(Fault::ThreeWordsAreRoom) && whole.len() == 3 {
+            let mut words = [0; 4];
+            let refusal = Oracle.view_validate(outline, bytes, &mut words, out);
+            if refusal == 0 {
+                whole.copy_from_slice(&words[..3]);
+            }
+            return refusal;
+        }
         let refusal = Oracle.view_validate(outline, bytes, whole, out);
         if refusal != 0 {
             return refusal;
         }
+        whole[3] = self.roots(outline, bytes, whole[0], whole[3]);
         if whole[0] == 7 && self.is(Fault::FinalVertexTestedWithTheOtherTolerance) {
             let record = record::decode(bytes).unwrap();
             let index = (record.start_index + record.end_index_offset) % (outline.len() / 3);
@@ -470,6 +505,12 @@ fn each_fault_is_found() {
         Fault::TrimKeepsHalfTheNumber,
         Fault::CreateKeepsAnOldNumber,
         Fault::NewStartKeepsAnOldNumber,
+        Fault::OnlyOneRootCounted,
+        Fault::RootOfAnUnplacedStartNotCounted,
+        Fault::LineTakesARoot,
+        Fault::PointNearAnEndTakesARoot,
+        Fault::NoRootsReported,
+        Fault::ThreeWordsAreRoom,
     ] {
         let calls = found_within(fault);
         println!("{fault:?}: found within {calls:?} calls");

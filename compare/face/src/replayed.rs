@@ -259,7 +259,7 @@ impl Library for Bisquefern {
         let case = Case::new(Call::ViewValidate).numbers(outline);
         let case = wholes_room(case.bytes(record), whole);
         let (refusal, words) = ask(numbers_room(case, out));
-        let (wholes, numbers) = words.split_at(words.len().min(3));
+        let (wholes, numbers) = words.split_at(words.len().min(4));
         copy_wholes(wholes, whole);
         copy_numbers(numbers, out);
         refusal

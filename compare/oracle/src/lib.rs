@@ -10,6 +10,7 @@ mod library;
 pub mod plain;
 pub mod record;
 pub mod refusal;
+mod roots;
 pub mod segment;
 pub mod sheet;
 pub mod view;

@@ -56,8 +56,9 @@ pub trait Library {
         tolerance: f64,
         out: &mut [u8],
     ) -> u8;
-    /// Writes to `whole` the verdict and, for verdict 2, the offset and the vertex count; to `out` the verdict's
-    /// numbers in the order of `ViewDataValidation`. Unused places of the 3 and the 5 get zero.
+    /// Writes to `whole` the verdict, for verdict 2 the offset and the vertex count, and the square roots that the
+    /// verdict took; to `out` the verdict's numbers in the order of `ViewDataValidation`. Unused places of the 4 and
+    /// the 5 get zero.
     fn view_validate(
         &self,
         outline: &[f64],
@@ -115,6 +116,19 @@ fn verdict_values(verdict: &ViewDataValidation<f64>) -> ([u64; 3], [f64; 5]) {
     }
 }
 
+/// A verdict and its roots: 8 where either buffer is short, and then neither is written.
+fn give_verdict(
+    verdict: &ViewDataValidation<f64>,
+    roots: u64,
+    whole: &mut [u64],
+    out: &mut [f64],
+) -> Result<(), u8> {
+    check(whole.len() >= 4 && out.len() >= 5, refusal::ROOM)?;
+    let ([number, offset, count], numbers) = verdict_values(verdict);
+    give([number, offset, count, roots], whole)?;
+    give(numbers, out)
+}
+
 /// A record with its cut number: `create` and `from_new_start` give 0, reversal and trim keep it.
 fn give_record(answer: PlineViewData, cut_number: u32, out: &mut [u8]) -> Result<(), u8> {
     give(encode(&answer, cut_number), out)
@@ -123,6 +137,23 @@ fn give_record(answer: PlineViewData, cut_number: u32, out: &mut [u8]) -> Result
 /// 0, or the refusal.
 fn reply(answer: Result<(), u8>) -> u8 {
     answer.err().unwrap_or(0)
+}
+
+impl Oracle {
+    /// Validation by the text alone, run once, with no count. `bench` times this.
+    #[inline(never)]
+    pub fn verdict(
+        &self,
+        outline: &[f64],
+        record: &[u8],
+        whole: &mut [u64],
+        out: &mut [f64],
+    ) -> u8 {
+        reply(decode(record).and_then(|record| {
+            let verdict = view::validate(outline, &record)?;
+            give_verdict(&verdict, 0, whole, out)
+        }))
+    }
 }
 
 // Never inlined: a caller of the library that is compared cannot inline it either, and `bench` times both.
@@ -257,11 +288,8 @@ impl Library for Oracle {
         out: &mut [f64],
     ) -> u8 {
         reply(decode(record).and_then(|record| {
-            let verdict = view::validate(outline, &record)?;
-            check(whole.len() >= 3 && out.len() >= 5, refusal::ROOM)?;
-            let (counts, numbers) = verdict_values(&verdict);
-            give(counts, whole)?;
-            give(numbers, out)
+            let (verdict, roots) = view::validate_counted(outline, &record)?;
+            give_verdict(&verdict, roots, whole, out)
         }))
     }
 

@@ -4,7 +4,8 @@ use crate::checks::{
     MOST_VERTICES, check, outline_in_range, point_in_range, record_in_range, tolerance,
     vertex_in_range,
 };
-use crate::{PlineVertex, PlineViewData, Vector2, ViewDataValidation, refusal};
+use crate::{PlineVertex, PlineViewData, Vector2, ViewDataValidation, refusal, roots};
+use cavalier_contours::core::traits::Real;
 use cavalier_contours::polyline::{PlineSource, PlineView, Polyline};
 
 /// A lent outline, as the published text reads one.
@@ -119,6 +120,16 @@ pub fn validate(outline: &[f64], record: &PlineViewData) -> Result<ViewDataValid
     validate_in(&source, record)
 }
 
+/// Validation, and how many square roots the published text takes for the verdict.
+pub fn validate_counted(
+    outline: &[f64],
+    record: &PlineViewData,
+) -> Result<(ViewDataValidation<f64>, u64), u8> {
+    let verdict = validate(outline, record)?;
+    let taken = roots::taken(&Outline::new(outline, false, 0)?, record, &verdict);
+    Ok((verdict, taken))
+}
+
 /// Validation on an outline that is in range.
 pub(crate) fn validate_in(
     source: &Outline,
@@ -132,7 +143,7 @@ pub(crate) fn validate_in(
 }
 
 /// A verdict's number: 1 to 7, in the order of `ViewDataValidation`.
-pub fn verdict_number(verdict: &ViewDataValidation<f64>) -> u8 {
+pub fn verdict_number<T: Real>(verdict: &ViewDataValidation<T>) -> u8 {
     match verdict {
         ViewDataValidation::SourceHasNoSegments => 1,
         ViewDataValidation::OffsetOutOfRange { .. } => 2,

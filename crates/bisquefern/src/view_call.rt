@@ -13,7 +13,7 @@ use record::record_from_bytes;
 use view::PlineViewData;
 ghost use Rattle.plane.specs.Grade.{double};
 ghost use Rattle.view.specs.Answers.{getVertexOf, vertexCountOf, reverseOf, trimOf};
-ghost use Rattle.view.specs.Validation.{validateOf, markAnswer};
+ghost use Rattle.view.specs.Validation.{validateOf, validateCounted, markAnswer};
 ghost use Rattle.view.specs.Create.{createOf, newStartOf};
 ghost use Rattle.record.specs.Record.{recordBytes};
 ghost use Rattle.lent.specs.Lent.{itself, one, both, Answered, BothAnswered};
@@ -82,7 +82,7 @@ pub extern "C" fn bf_view_from_new_start(
     )
 }
 
-// The verdict with its counts and its numbers. 11, 12, 3, 1, 4, 8.
+// The verdict with its counts, the square roots that it took, and its numbers. 11, 12, 3, 1, 4, 8.
 #[no_mangle]
 pub extern "C" fn bf_view_validate(
     outline: &[f64],
@@ -90,7 +90,7 @@ pub extern "C" fn bf_view_validate(
     whole: &mut [u64],
     out: &mut [f64],
 ) -> u8
-    ensures { λ r. ⌜ BothAnswered verdictValues (ofRecord (now (bytes .entry)) (validateOf double (double .line) (now (outline .entry)))) (both (now (whole .entry)) (now (out .entry))) r (both (now (whole .exit)) (now (out .exit))) ⌝ }
+    ensures { λ r. ⌜ BothAnswered verdictValues (ofRecord (now (bytes .entry)) (validateCounted double (double .line) (now (outline .entry)))) (both (now (whole .entry)) (now (out .entry))) r (both (now (whole .exit)) (now (out .exit))) ⌝ }
 {
     let decoded = record_from_bytes(bytes);
     match decoded {

@@ -8,12 +8,13 @@ use lib.ListN.{length}
 use borrow.Author.Tests.{le-leb, lt-leb}
 use Rattle.real.specs.Refusal.{badNumber, badOutline, badSheet, badRecord}
 use Rattle.real.specs.Reply.{given, check}
+use Rattle.real.specs.Roots.{plain}
 use Rattle.plane.specs.Grade.{double}
 use Rattle.plane.specs.Range.{mostVertices, wholeOutline}
 use Rattle.lists.proofs.Tab.{length-tab}
 use Rattle.view.specs.Outline.{numbersOk}
 use Rattle.view.specs.Record.{recordOk}
-use Rattle.view.specs.Validation.{countedVerdict, validateOf}
+use Rattle.view.specs.Validation.{countsBy, validateBy}
 use Rattle.view.specs.declared.view_data.PlineViewData.{PlineViewData}
 use Rattle.job.specs.Header.{headerOf, closed, headerUnder, headerOk}
 use Rattle.job.specs.Outline.{numbersIn}
@@ -37,7 +38,7 @@ module _ (m n : ℕ) (b : List ℕ) (p : vertices b ≤ m) (q : vertices b ≤ n
   unfolding viewTextUnder validateUnder
   view-same closed k d =
       ap
-      (λ (whole : Bool). verdictText closed (outlineOf b) d k (check whole badOutline (check (numbersOk double (outlineOf b) && recordOk double d) badNumber (countedVerdict double (double .line) (outlineOf b) d))))
+      (λ (whole : Bool). verdictText closed (outlineOf b) d k (check whole badOutline (check (numbersOk double (outlineOf b) && recordOk double d) badNumber (countsBy plain double (double .line) (outlineOf b) d))))
       whole-same
 
   whole-text-same : wholeTextUnder m b ≡ wholeTextUnder n b
@@ -67,7 +68,7 @@ unfolding sheetTextUnder headerUnder
 over m b h = simp (lt-leb (vertices b) m h, and-false)
 
 stands : (b : List ℕ) → sheetTextUnder mostVertices b ≡ sheetText b
-unfolding sheetTextUnder wholeTextUnder viewTextUnder validateUnder wholeUnder sheetText sheetOf headerOk wholeText viewText validateOf wholeOutline
+unfolding sheetTextUnder wholeTextUnder viewTextUnder validateUnder wholeUnder sheetText sheetOf headerOk wholeText viewText validateBy wholeOutline
 stands b = refl
 
 read : (b : List ℕ) (m : ℕ) → vertices b ≤ m → vertices b ≤ mostVertices → sheetTextUnder m b ≡ sheetText b

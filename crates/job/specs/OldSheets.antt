@@ -9,11 +9,12 @@ use lib.Dec.{leb, eqb}
 use lib.Ieee.{Float}
 use Rattle.real.specs.Refusal.{badNumber, badOutline, badSheet, badRecord}
 use Rattle.real.specs.Reply.{Reply, given, check}
+use Rattle.real.specs.Roots.{plain}
 use Rattle.plane.specs.Grade.{double}
 use Rattle.plane.specs.Range.{mostVertices}
 use Rattle.view.specs.Outline.{numbersOk}
 use Rattle.view.specs.Record.{recordOk}
-use Rattle.view.specs.Validation.{Verdict, countedVerdict}
+use Rattle.view.specs.Validation.{Verdict, countsBy}
 use Rattle.view.specs.declared.view_data.PlineViewData.{PlineViewData}
 use Rattle.job.specs.Header.{headerOf, closed, headerUnder}
 use Rattle.job.specs.Sheet.{vertices, outlineOf, recordsOf, recordsOk, verticesOk}
@@ -35,7 +36,7 @@ module _ (most : ℕ) where
   validateUnder s d =
       check (wholeUnder (length s)) badOutline
       (check (numbersOk double s && recordOk double d) badNumber
-      (countedVerdict double (double .line) s d))
+      (countsBy plain double (double .line) s d))
 
   unfoldable pub viewTextUnder : Bool → List Float → ℕ → PlineViewData → List ℕ
   viewTextUnder closed s k d = verdictText closed s d k (validateUnder s d)

@@ -124,7 +124,10 @@ fn put_view(
     let answer = d.validate_for_source(outline);
     match answer {
         ValidationAnswer::Refused(number) => put_refused_view(out, k, number as usize),
-        ValidationAnswer::Given(verdict) => put_marked(outline, d, k, verdict, closed, list, out),
+        ValidationAnswer::Given(judged) => {
+            let verdict = judged.verdict;
+            put_marked(outline, d, k, verdict, closed, list, out)
+        }
     }
 }
 

@@ -5,6 +5,7 @@ use Prim.Native.Nat.{ℕ}
 use lib.ListN.{length, getD}
 use lib.Ieee.{Float}
 use Rattle.real.specs.Reply.{Reply, given, andThen}
+use Rattle.real.specs.Roots.{Tally}
 use Rattle.plane.specs.Grade.{double}
 use Rattle.plane.specs.declared.vector2.Vector2.{Vector2}
 use Rattle.plane.specs.declared.pline_vertex.PlineVertex.{PlineVertex}
@@ -44,9 +45,9 @@ abbrev pub markByte : MarkCase → List ℕ
 markByte cut = 1 ∷ []
 markByte hold = 0 ∷ []
 
--- the verdict's number and counts, unused ones 0
-abbrev pub verdictWords : Verdict → List ℕ
-verdictWords v = v .number ∷ getD (v .counts) 0 0 ∷ getD (v .counts) 1 0 ∷ []
+-- the verdict's number and counts, unused ones 0, and the roots that it took
+abbrev pub verdictWords : Tally Verdict → List ℕ
+verdictWords t = let v = t .value in v .number ∷ getD (v .counts) 0 0 ∷ getD (v .counts) 1 0 ∷ t .roots ∷ []
 
 -- its floats, unused ones +0
 abbrev pub verdictNumbers : Verdict → List Float
@@ -54,8 +55,8 @@ verdictNumbers v =
     let at : ℕ → Float = λ k. getD (v .floats) k (double .zero) in
     at 0 ∷ at 1 ∷ at 2 ∷ at 3 ∷ at 4 ∷ []
 
-abbrev pub verdictValues : Verdict → Both
-verdictValues v = both (verdictWords v) (verdictNumbers v)
+abbrev pub verdictValues : Tally Verdict → Both
+verdictValues t = both (verdictWords t) (verdictNumbers (t .value))
 
 -- a record's bytes, as its writer leaves them: 5 and 4 for numbers that are no u32, then 8
 unfoldable pub recordLent : PlineViewData → List ℕ → Reply (List ℕ)

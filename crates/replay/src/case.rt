@@ -137,7 +137,7 @@ fn print_answer(call: u64, out: &[f64], whole: &[u64], byte: &[u8]) {
         8 => print_numbers(out, 4),
         7 | 13 => print_byte(byte),
         12 => {
-            print_words(whole, 3);
+            print_words(whole, 4);
             print_numbers(out, 5);
         }
         14 => print_words(whole, 1),

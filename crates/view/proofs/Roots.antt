@@ -23,9 +23,10 @@ use Rattle.lists.specs.View.{wrapped}
 use Rattle.view.specs.Outline.{vertexOf, vertexPast, countOf, numbersOk}
 use Rattle.view.specs.Record.{recordOk}
 use Rattle.view.specs.Segment.{nearEnd, nearClosestBy, onSegmentBy, onOutlineBy}
-use Rattle.view.specs.Validation.{Verdict, startOff, endVerdict, placedBy, countsBy, validateBy, validateOf, validateCounted}
+use Rattle.view.specs.Validation.{Verdict, validationReply, startOff, endVerdict, placedBy, countsBy, validateBy, validateOf, validateCounted}
 use Rattle.view.specs.Roots.{uncounted, testRoots, Rootless, TestRoots, RootsTaken}
 use Rattle.view.specs.declared.view_data.PlineViewData.{PlineViewData}
+use Rattle.view.specs.declared.validation.ValidationAnswer.{ValidationAnswer}
 
 uncounted-chosen : {A : Type 0} (b : Bool) (x y : Reply (Tally A)) → uncounted (cond b x y) ≡ cond b (uncounted x) (uncounted y)
 uncounted-chosen true x y = refl
@@ -137,9 +138,13 @@ module _ (g : Grade) (limit : Float) where
     unfolding placedBy
     placed-value = chosen-value (not (onOutlineBy counting g limit s (d .«start_index») first .value)) _ _ ∙ rw (outline-value s (d .«start_index») first, outline-value s last (d .«end_point»))
 
-    pub verdicts-stay : uncounted (validateCounted g limit s d) ≡ validateOf g limit s d
+    verdicts-stay : uncounted (validateCounted g limit s d) ≡ validateOf g limit s d
     unfolding validateBy countsBy
     verdicts-stay = simp (uncounted-chosen, placed-value)
+
+    -- what an answer of the code says of the verdict alone
+    pub verdict-told : {a b : ValidationAnswer} → validationReply a ≡ validateCounted g limit s d → a ≡ b → validateOf g limit s d ≡ uncounted (validationReply b)
+    verdict-told e f = sym verdicts-stay ∙ ap uncounted (sym e) ∙ ap (λ (a : ValidationAnswer). uncounted (validationReply a)) f
 
     abbrev bound : ℕ
     bound = testRoots g limit s (d .«start_index») first + testRoots g limit s last (d .«end_point»)

@@ -43,7 +43,7 @@ fn main() {
 /// Answer buffers with room for every call; each side has its own.
 struct Room {
     numbers: Vec<f64>,
-    wholes: [u64; 3],
+    wholes: [u64; 4],
     bytes: [u8; 64],
 }
 
@@ -51,7 +51,7 @@ impl Room {
     fn new() -> Self {
         Room {
             numbers: vec![0.0; 3 * 2002],
-            wholes: [0; 3],
+            wholes: [0; 4],
             bytes: [0; 64],
         }
     }
@@ -109,6 +109,24 @@ macro_rules! row {
             },
         )
     };
+}
+
+/// A row of validation. The text does not count its roots, so its verdict is timed without.
+fn validate_row<C>(name: &str, cases: &[C], lend: impl Fn(&C) -> (&[f64], &[u8])) {
+    compare(
+        name,
+        cases.len(),
+        |k, room| {
+            let (outline, record) = lend(black_box(&cases[k]));
+            let (wholes, numbers) = (&mut room.wholes, &mut room.numbers);
+            black_box(Bisquefern.view_validate(outline, record, wholes, numbers));
+        },
+        |k, room| {
+            let (outline, record) = lend(black_box(&cases[k]));
+            let (wholes, numbers) = (&mut room.wholes, &mut room.numbers);
+            black_box(Oracle.verdict(outline, record, wholes, numbers));
+        },
+    )
 }
 
 fn roots() {
@@ -341,8 +359,8 @@ fn views() {
             &mut room.bytes,
         )
     });
-    row!(&name(Call::ViewValidate), cases, |library, c, room| {
-        library.view_validate(&c.outline, &c.record, &mut room.wholes, &mut room.numbers)
+    validate_row(&name(Call::ViewValidate), &cases, |c| {
+        (&c.outline, &c.record)
     });
     row!(&name(Call::ViewMark), cases, |library, c, room| {
         library.view_mark(&c.outline, 1, &c.record, &mut room.bytes)
@@ -379,8 +397,8 @@ fn large() {
                 library.view_list(&outline, record, &mut room.numbers, &mut room.wholes)
             }
         );
-        row!(&name("view_validate"), records, |library, record, room| {
-            library.view_validate(&outline, record, &mut room.wholes, &mut room.numbers)
+        validate_row(&name("view_validate"), &records, |record| {
+            (&outline, record)
         });
         row!(&name("view_get"), records, |library, record, room| {
             library.view_get(&outline, record, 1000, &mut room.numbers)

@@ -20,11 +20,11 @@ returns-3 : tie.Need-returns-3
 returns-3 c =
     let at-write-words = c .before .before in
     let at-verdict-words = at-write-words .before .before .before in
-    let at-if2 = at-verdict-words .before in
+    let at-if2 = at-verdict-words .before .before in
     let at-write = at-if2 .before .before .before in
     let at-verdict-numbers = at-write .before .before .before in
     let at-if1 = at-verdict-numbers .before in
     both-stored verdictValues (at-if1 .if1 .left) (at-if2 .if2 .left) (stored-as itself itself (at-verdict-numbers .verdict-numbers .ensures) (at-write .write .ensures)) (stored-as itself itself (at-verdict-words .verdict-words .ensures) (at-write-words .write-words .ensures))
 
 pub put-verdict-spec : {M : Type 1} → statement M
-put-verdict-spec = tie.close (tie.spec returns (λ c κs. tt) (λ c. search needs) (λ c κs. tt) (λ c. search needs) returns-2 (λ c κs. tt) (λ c. search needs) (λ c κs. tt) (λ c. search needs) (λ c. search needs) returns-3)
+put-verdict-spec = tie.close (tie.spec returns (λ c κs. tt) (λ c. search needs) (λ c κs. tt) (λ c. search needs) returns-2 (λ c. search needs) (λ c κs. tt) (λ c. search needs) (λ c κs. tt) (λ c. search needs) (λ c. search needs) returns-3)

@@ -4,9 +4,8 @@ use borrow.Author.Needs.{needs}
 use denote.Ref.{now}
 use Rattle.real.specs.Reply.{given}
 use Rattle.plane.specs.Grade.{double}
-use Rattle.view.specs.Validation.{markAnswer, validationReply}
-use Rattle.view.specs.Roots.{uncounted}
-use Rattle.view.proofs.Roots.{verdicts-stay}
+use Rattle.view.specs.Validation.{markAnswer}
+use Rattle.view.proofs.Roots.{verdict-told}
 use Rattle.view.proofs.view_data.PlineViewData.mark.Statement.{statement}
 use Rattle.view.proofs.view_data.PlineViewData.mark.Tie as tie
 
@@ -14,14 +13,13 @@ returns : tie.Need-returns
 returns c =
     let call = c .before .before .before .before in
     let a = call .before .before .args in
-    ap given (c .mark .ensures)
-    ∙ ap (markAnswer (a .closed) (now (a .source)) (a .self)) (ap (λ r. uncounted (validationReply r)) (sym (c .before .before .answer .given .1)) ∙ ap uncounted (call .validate-for-source .ensures) ∙ verdicts-stay double (double .line) _ _)
+    ap given (c .mark .ensures) ∙ ap (markAnswer (a .closed) (now (a .source)) (a .self)) (sym (verdict-told double (double .line) _ _ (call .validate-for-source .ensures) (c .before .before .answer .given .1)))
 
 returns-2 : tie.Need-returns-2
 returns-2 c =
     let call = c .before .before .before in
     let a = call .before .before .args in
-    ap (markAnswer (a .closed) (now (a .source)) (a .self)) (ap (λ r. uncounted (validationReply r)) (sym (c .before .answer2 .given .1)) ∙ ap uncounted (call .validate-for-source .ensures) ∙ verdicts-stay double (double .line) _ _)
+    ap (markAnswer (a .closed) (now (a .source)) (a .self)) (sym (verdict-told double (double .line) _ _ (call .validate-for-source .ensures) (c .before .answer2 .given .1)))
 
 pub mark-spec : {M : Type 1} → statement M
 mark-spec = tie.close (tie.spec (λ c κs. tt) (λ c. search needs) (λ c κs. tt) (λ c. search needs) returns returns-2)
