@@ -4,3 +4,4 @@ mod Copy
 pub mod Record
 mod Listed
 pub mod Only
+pub mod Exact

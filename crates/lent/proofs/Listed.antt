@@ -2,7 +2,7 @@
 use mathlib.Core.Path.{_≡_, refl, sym, ap, ap₂, _∙_}
 use mathlib.Core.Bool.{Bool, true, false, _&&_}
 use mathlib.Core.List.{List, [], _∷_, _++_}
-use Prim.Native.Nat.{ℕ, _*_, _≤_, _<_}
+use Prim.Native.Nat.{ℕ, _≤_, _<_}
 use lib.Dec.{leb, ltb}
 use lib.ListN.{length, drop}
 use lib.Ieee.{Float}
@@ -16,8 +16,7 @@ use Rattle.view.specs.Record.{listed, needed, vertices, recordOk}
 use Rattle.view.specs.Check.{placeOf, checkOf}
 use Rattle.view.specs.Answers.{vertexCountOf, listOf, listBuffer, bufferAfter, written}
 use Rattle.view.specs.declared.view_data.PlineViewData.{PlineViewData}
-use Rattle.lists.proofs.Tab.{length-flat}
-use Rattle.view.proofs.Shape.{list-count}
+use Rattle.view.proofs.Shape.{list-numbers}
 use Rattle.lent.specs.Lent.{codeOf, heldBy, lent, lentBoth, inFront, hasRoom, itself, one, both, Answered, BothAnswered}
 use Rattle.lent.specs.Values.{listReply}
 use Rattle.lent.proofs.Laws.{replies}
@@ -57,9 +56,6 @@ module _ (s : List Float) (d : PlineViewData) where
       chained (viewable s) (numbersOk double s && recordOk double d) (leb (d .«end_index_offset») (countOf s)) (ltb (d .«start_index») (countOf s)) (vertices d)
       (λ n. check (leb (needed d) m) noRoom (given n))
 
-  numbers-count : length (flat (listed double s d)) ≡ needed d
-  numbers-count = length-flat (listed double s d) ∙ ap (λ (k : ℕ). 3 * k) (list-count double s d)
-
   module _ {out : List Float} {count count′ : List ℕ} {n : ℕ} {y : Reply ℕ} where
     pub no-count : length count < 1 → y ≡ vertexCountOf double s d → Answered one y count n count′ → BothAnswered itself (listReply s d) (both count out) n (both count′ out)
     unfolding listReply
@@ -71,5 +67,5 @@ module _ (s : List Float) (d : PlineViewData) where
     listed-both h e o w =
         let is = list-is (length out) in
         let l = flat (listed double s d) in
-        by-room l (vertexCountOf double s d) (leb (needed d) (length out)) (ap (λ (m : ℕ). leb m (length out)) numbers-count) h
-        (o ∙ ap₂ (λ (r : Reply ℕ) (m : ℕ). bufferAfter r out (l ++ drop m out)) is (sym numbers-count)) (replies (e ∙ is) w)
+        by-room l (vertexCountOf double s d) (leb (needed d) (length out)) (ap (λ (m : ℕ). leb m (length out)) (list-numbers double s d)) h
+        (o ∙ ap₂ (λ (r : Reply ℕ) (m : ℕ). bufferAfter r out (l ++ drop m out)) is (sym (list-numbers double s d))) (replies (e ∙ is) w)

@@ -1,3 +1,4 @@
 pub mod Lent
 pub mod Values
+pub mod Exact
 pub mod Segment

@@ -1,8 +1,8 @@
--- The closest point's roots: read without them it is the same point, it takes at most one, and exactly where.
-use mathlib.Core.Path.{_≡_, refl, _∙_}
+-- Where the closest point takes a root: for an arc alone, and there for the radial point alone.
+use mathlib.Core.Path.{_≡_, refl}
 use mathlib.Core.Bool.{Bool, true, false, cond}
 use lib.Ieee.{Float}
-use Rattle.real.specs.Roots.{Tally, tally, plain, counting}
+use Rattle.real.specs.Roots.{Tally, counting}
 use Rattle.plane.specs.Grade.{Grade}
 use Rattle.plane.specs.Vec.{vnearOf}
 use Rattle.plane.specs.Vertex.{lineOf}
@@ -11,11 +11,7 @@ use Rattle.plane.specs.declared.pline_vertex.PlineVertex.{PlineVertex}
 use Rattle.seg.specs.Arc.{centerOf, sweepsOver}
 use Rattle.seg.specs.Closest.{radialScaleBy, radialBy, arcClosestBy, closestBy}
 
--- of two counted values one is chosen: its value and its roots are chosen alike
-pub chosen-value : {A : Type 0} (b : Bool) (x y : Tally A) → cond b x y .value ≡ cond b (x .value) (y .value)
-chosen-value true x y = refl
-chosen-value false x y = refl
-
+-- the roots of a choice
 pub chosen-roots : {A : Type 0} (b : Bool) (x y : Tally A) → cond b x y .roots ≡ cond b (x .roots) (y .roots)
 chosen-roots true x y = refl
 chosen-roots false x y = refl
@@ -28,16 +24,11 @@ module _ (g : Grade) (limit : Float) (v1 v2 : PlineVertex) (p : Vector2) (eps : 
   abbrev center : Vector2
   center = centerOf g v1 v2
 
-  -- the radial point takes exactly one root
-  radial-counted : radialBy counting g v1 v2 center p ≡ tally (radialBy plain g v1 v2 center p) 1
+  radial-roots : radialBy counting g v1 v2 center p .roots ≡ 1
   unfolding radialBy radialScaleBy
-  radial-counted = refl
+  radial-roots = refl
 
-  pub closest-value : closestBy counting g limit v1 v2 p eps .value ≡ closestBy plain g limit v1 v2 p eps
-  unfolding closestBy arcClosestBy
-  closest-value = simp (chosen-value, radial-counted)
-
-  -- one root for an arc, away from its centre and in its sweep; else none
+  -- one for an arc, away from its centre and in its sweep; else none
   pub closest-roots : closestBy counting g limit v1 v2 p eps .roots ≡ cond (lineOf g limit v1) 0 (cond (vnearOf g p center eps) 0 (cond (sweepsOver g v1 v2 center p eps) 1 0))
   unfolding closestBy arcClosestBy
-  closest-roots = simp (chosen-roots, chosen-same, radial-counted)
+  closest-roots = simp (chosen-roots, chosen-same, radial-roots)

@@ -18,7 +18,8 @@ use Rattle.plane.specs.declared.vector2.Vector2.{Vector2}
 use Rattle.plane.specs.declared.pline_vertex.PlineVertex.{PlineVertex}
 use Rattle.seg.specs.Arc.{centerOf, sweepsOver}
 use Rattle.seg.specs.Closest.{closestBy}
-use Rattle.seg.proofs.Roots.{chosen-value, chosen-roots, closest-value, closest-roots}
+use Rattle.seg.proofs.Uncounted.{chosen-value, closest-value}
+use Rattle.seg.proofs.Roots.{chosen-roots, closest-roots}
 use Rattle.lists.specs.View.{wrapped}
 use Rattle.view.specs.Outline.{vertexOf, vertexPast, countOf, numbersOk}
 use Rattle.view.specs.Record.{recordOk}

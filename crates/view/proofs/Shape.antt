@@ -1,8 +1,8 @@
 -- "A view has offset + 2 vertices", its list ends in bulge plus zero, and lookup and list agree.
-use mathlib.Core.Path.{_≡_, refl, sym, ap}
+use mathlib.Core.Path.{_≡_, refl, sym, ap, _∙_}
 use mathlib.Core.Bool.{Bool, true, false, cond, _&&_, _||_}
 use mathlib.Core.List.{List}
-use Prim.Native.Nat.{ℕ, _+_, _<_}
+use Prim.Native.Nat.{ℕ, _+_, _*_, _<_}
 use native.Mathlib.Nat.{mod-lt}
 use native.Mathlib.Omega.{arith}
 use lib.ListN.{length}
@@ -11,20 +11,24 @@ use lib.Ieee.{Float, neg}
 use borrow.Author.Tests.{lt-ltb}
 use Rattle.real.specs.Reply.{given}
 use Rattle.plane.specs.Grade.{Grade}
-use Rattle.lists.specs.Plain.{Vert, at}
+use Rattle.lists.specs.Plain.{Vert, at, flat}
 use Rattle.lists.specs.View.{viewList}
 use Rattle.view.specs.Outline.{countOf, ofVert, srcOf}
-use Rattle.view.specs.Record.{viewOf, vertices, listed, pastOk, turnedOk, readsOk}
+use Rattle.view.specs.Record.{viewOf, vertices, needed, listed, pastOk, turnedOk, readsOk}
 use Rattle.view.specs.Needs.{Placed}
 use Rattle.view.specs.Answers.{getVertexOf}
 use Rattle.view.specs.declared.view_data.PlineViewData.{PlineViewData}
-use Rattle.lists.proofs.Tab.{getD-tab}
+use Rattle.lists.proofs.Tab.{getD-tab, length-flat}
 use Rattle.view.proofs.Checks.{Checked, place-rest, vertex-in}
 use Rattle.lists.proofs.Listing.{length-list, ends-in-zero}
 
 module _ (g : Grade) (s : List Float) (d : PlineViewData) where
   pub list-count : length (listed g s d) ≡ d .«end_index_offset» + 2
   list-count = length-list neg (g .zero) (srcOf s) (countOf s) (viewOf d)
+
+  -- its numbers, three to a vertex
+  pub list-numbers : length (flat (listed g s d)) ≡ needed d
+  list-numbers = length-flat (listed g s d) ∙ ap (λ (k : ℕ). 3 * k) list-count
 
   pub list-ends : at (g .zero) (listed g s d) (d .«end_index_offset» + 1) .bulge ≡ g .zero
   list-ends = ends-in-zero neg (g .zero) (srcOf s) (countOf s) (viewOf d)

@@ -112,7 +112,7 @@ macro_rules! row {
 }
 
 /// A row of validation. The text does not count its roots, so its verdict is timed without.
-fn validate_row<C>(name: &str, cases: &[C], lend: impl Fn(&C) -> (&[f64], &[u8])) {
+fn validate_row<'a, C>(name: &str, cases: &'a [C], lend: impl Fn(&'a C) -> (&'a [f64], &'a [u8])) {
     compare(
         name,
         cases.len(),

@@ -2,7 +2,7 @@
 use mathlib.Core.Path.{_∙_}
 use Rattle.real.proofs.Tallies.{value-of}
 use Rattle.plane.specs.Grade.{double}
-use Rattle.seg.proofs.Roots.{closest-value}
+use Rattle.seg.proofs.Uncounted.{closest-value}
 use Rattle.seg.proofs.closest.closest.Statement.{statement}
 use Rattle.seg.proofs.closest.closest.Tie as tie
 
