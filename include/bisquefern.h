@@ -120,9 +120,11 @@ uint8_t bf_view_create(const double *outline, size_t outline_len, uint64_t start
 uint8_t bf_view_from_new_start(const double *outline, size_t outline_len, uint8_t closed, double x, double y,
                                uint64_t start, double tolerance, void *out, size_t out_len);
 
-/* The verdict, a number of bf_verdict. `whole` gets 3 words: the verdict, and for verdict 2 the offset and the vertex
- * count, else 0, 0. `out` gets 5 numbers, unused ones 0: for 3 the start point, for 4 the end point, for 5 the end point
- * and the source vertex, for 6 the end bulge and the start bulge. 11, 12, 3, 1, 4, 8. */
+/* The verdict, a number of bf_verdict. `whole` gets 4 words: the verdict, for verdict 2 the offset and the vertex count,
+ * else 0, 0, and how many square roots it took, at most 2: one for each point of the two that it tests, start and end, in
+ * an arc's sweep, unless that is at the arc's start or end, to 0.001, or at its centre, to 0.00001; none on a line.
+ * `out` gets 5 numbers, unused ones 0: for 3 the start point, for 4 the end point, for 5 the end point and the source
+ * vertex, for 6 the end bulge and the start bulge. 11, 12, 3, 1, 4, 8. */
 uint8_t bf_view_validate(const double *outline, size_t outline_len, const void *record, size_t record_len,
                          uint64_t *whole, size_t whole_len, double *out, size_t out_len);
 

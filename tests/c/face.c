@@ -41,6 +41,9 @@ static const double Q[12] = {0, 0, 0, 4, 0, 0.5, 4, 4, 0, 0, 4, 0};
 /* Q with a last vertex that is not a number. */
 static const double BROKEN[12] = {0, 0, 0, 4, 0, 0.5, 4, 4, 0, NAN, 4, 0};
 
+/* The half circle about (5,0) from (0,0) to (10,0), and the line back. */
+static const double ARCH[6] = {0, 0, 1, 10, 0, 0};
+
 /* R is start 0, offset 2, updated start (1,0,0), end bulge 0, end (2,4), forward. */
 static const bf_record R = {0, 2, {1, 0, 0}, 0, {2, 4}, 0, 0};
 
@@ -50,7 +53,7 @@ static double long_outline[3 * 2001];
 /* The lent buffers, each with room past the longest answer. */
 enum { FILL = 0x55, STACK = BF_STACK_BYTES, AREA = 16 * STACK };
 static double numbers[3 * 2002 + 2];
-static uint64_t words[4];
+static uint64_t words[5];
 static unsigned char bytes[64 + 16];
 static size_t shift;
 
@@ -107,6 +110,13 @@ static const void *marked(uint32_t start, uint32_t direction, uint32_t cut_numbe
     r.inverted_direction = direction;
     r.cut_number = cut_number;
     return at(&r);
+}
+
+/* A view along ARCH's half circle. */
+static const void *along(double x, double y, double end_x, double end_y)
+{
+    const bf_record view = {0, 0, {x, y, 1}, 1, {end_x, end_y}, 0, 0};
+    return at(&view);
 }
 
 static void call_numbers(void)
@@ -188,7 +198,7 @@ static void call_makers(void)
 
 static uint8_t validate(const double *outline, size_t outline_len, const void *record)
 {
-    return bf_view_validate(outline, outline_len, record, 64, words, 3, numbers, 5);
+    return bf_view_validate(outline, outline_len, record, 64, words, 4, numbers, 5);
 }
 
 static void call_judges(void)
@@ -205,13 +215,19 @@ static void call_judges(void)
     say("R to (2,0) over none", VERDICT, 0, validate(Q, 12, altered(0, 2, 0, 0)));
     say("the same, end bulge 0.5", VERDICT, 0, validate(Q, 12, altered(0, 2, 0, 0.5)));
     say("R to (5,2) on the arc", VERDICT, 0, validate(Q, 12, altered(1, 5, 2, 0.236)));
+    say("ARCH from end to end", VERDICT, 0, validate(ARCH, 6, along(0, 0, 10, 0)));
+    say("ARCH from its end", VERDICT, 0, validate(ARCH, 6, along(0, 0, 8, -4)));
+    say("ARCH between its ends", VERDICT, 0, validate(ARCH, 6, along(2, -4, 8, -4)));
+    say("ARCH from off it", VERDICT, 0, validate(ARCH, 6, along(5, -4, 8, -4)));
+    say("ARCH from its centre", VERDICT, 0, validate(ARCH, 6, along(5, 0, 8, -4)));
+    say("ARCH to off it", VERDICT, 0, validate(ARCH, 6, along(2, -4, 5, -4)));
     say("R on 5 numbers", VERDICT, 0, validate(Q, 5, at(&R)));
     say("R on a broken outline", VERDICT, 0, validate(BROKEN, 12, at(&R)));
     say("R from 4", VERDICT, 0, validate(Q, 12, marked(4, 0, 0)));
     say("R of direction 2", VERDICT, 0, validate(Q, 12, marked(0, 2, 0)));
-    say("R of 63 bytes", VERDICT, 0, bf_view_validate(Q, 12, at(&R), 63, words, 3, numbers, 5));
-    say("R, room for 2 words", VERDICT, 0, bf_view_validate(Q, 12, at(&R), 64, words, 2, numbers, 5));
-    say("R, room for 4 numbers", VERDICT, 0, bf_view_validate(Q, 12, at(&R), 64, words, 3, numbers, 4));
+    say("R of 63 bytes", VERDICT, 0, bf_view_validate(Q, 12, at(&R), 63, words, 4, numbers, 5));
+    say("R, room for 3 words", VERDICT, 0, bf_view_validate(Q, 12, at(&R), 64, words, 3, numbers, 5));
+    say("R, room for 4 numbers", VERDICT, 0, bf_view_validate(Q, 12, at(&R), 64, words, 4, numbers, 4));
 
     say("mark R", BYTE, 1, bf_view_mark(Q, 12, 1, at(&R), 64, out, 1));
     say("mark R, open", BYTE, 1, bf_view_mark(Q, 12, 0, at(&R), 64, out, 1));
@@ -372,7 +388,7 @@ static void print_said(void)
         printf(" to %.17g %.17g bulge %.17g direction %u cut number %u", last.end_point[0], last.end_point[1],
                last.updated_end_bulge, (unsigned)last.inverted_direction, (unsigned)last.cut_number);
     } else if (said.kind == VERDICT) {
-        w = 3;
+        w = 4;
         n = 5;
         printf(" %s", verdict_name((enum bf_verdict)words[0]));
         print_words(w);

@@ -1,7 +1,8 @@
 #!/bin/sh
 # Holds docs/PROMISES.md to the crates: each quoted line stands in the file that is named above it, each file and each wrong answer that is
 # named is there, and two or more are named for each call. The texts that README and docs/SHEET.md show are those that are stored, and so
-# is the number of replayed cases. And nothing speaks of the box that left the library but what says so.
+# is the number of replayed cases. Validation's definitions and functions name no root but the counted one. And nothing speaks of the box that
+# left the library but what says so.
 set -eu
 cd "$(dirname "$0")/../.."
 page=docs/PROMISES.md
@@ -43,6 +44,14 @@ wrong=$(
         *) echo "$file speaks of the fast box" ;;
         esac
     done
+    # validation and what it asks take no root but the counted one, once; what takes one uncounted has these names
+    for file in seg/specs/Closest.antt view/specs/Segment.antt view/specs/Validation.antt; do
+        ! grep -nwE 'rootOf|lengthOf|radiusOf|circleOf' "crates/$file" || echo "crates/$file takes a root that is not counted"
+    done
+    for file in seg/src/closest.rt view/src/segment.rt view/src/validate.rt; do
+        ! grep -nwE 'root|sqrt|length|arc_radius|seg_arc_radius_and_center' "crates/$file" || echo "crates/$file takes a root that is not counted"
+    done
+    [ "$(cat crates/*/src/*.rt | grep -cE '[^_a-z]counted_root\(')" = 2 ] || echo "counted_root is not one function with one call"
     # of each call in demand 2's tables two or more are named: a row's last column has a group for each, parted by ;
     awk -F'|' '
         /^\*\*2\./ { on = 1 }

@@ -33,10 +33,8 @@ pub struct RootedPoint {
 fn at_vertex(v: PlineVertex) -> RootedPoint
     ensures { λ r. ⌜ pointTally r ≡ counting .done (posOf v) ⌝ }
 {
-    RootedPoint {
-        point: v.pos(),
-        roots: 0,
-    }
+    let point = v.pos();
+    RootedPoint { point, roots: 0 }
 }
 
 // What the radial is scaled by to reach the arc, from the squared chord c2 and the squared radial r2.
