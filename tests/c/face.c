@@ -8,7 +8,7 @@
  * The calls run on a stack of their own, of the size that the header calls enough; outside it nothing may be written.
  * How much of it was written goes to standard error, this program's own frames among it. The header's number is rounded
  * up with room to spare: read from the archive's code, the frames of the deepest row of calls, bf_view_mark down to the
- * square root, take some 800 bytes. The file is C11 and C++17. */
+ * square root, take some 750 bytes. The file is C11 and C++17. */
 #define _XOPEN_SOURCE 700
 
 #include "bisquefern.h"

@@ -18,6 +18,10 @@ module _ (g : Grade) (limit : Float) (v1 v2 : PlineVertex) (p : Vector2) (eps : 
   unfolding radialBy radialScaleBy
   radial-value center = refl
 
+  pub arc-value : (center : Vector2) → arcClosestBy counting g v1 v2 center p eps .value ≡ arcClosestBy plain g v1 v2 center p eps
+  unfolding arcClosestBy
+  arc-value center = simp (chosen-value, radial-value)
+
   pub closest-value : closestBy counting g limit v1 v2 p eps .value ≡ closestBy plain g limit v1 v2 p eps
-  unfolding closestBy arcClosestBy
-  closest-value = simp (chosen-value, radial-value)
+  unfolding closestBy
+  closest-value = simp (chosen-value, arc-value)
