@@ -1,5 +1,5 @@
--- How a definition takes its square roots. A definition over a way w is one text with two readings: at `plain` it is a value, and at `counting` that value with the
--- number of roots that were taken on the path to it. Such a text has no number of its own: it can take a root, go on from a step, or be done.
+-- "how many square roots it took, equal to the number its definition takes along that path": a definition over a way w of taking roots is one text with two readings. At `plain` it
+-- is a value, and at `counting` that value with the roots that were taken on the path to it. Such a text has no number of its own: it can take a root, go on from a step, or be done.
 use Prim.Native.Nat.{ℕ, _+_}
 use lib.Ieee.{Float, Format}
 use Rattle.real.specs.Root.{rootOf}

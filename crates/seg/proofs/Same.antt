@@ -1,15 +1,19 @@
 -- No second answer fits a promise: a reply tells its answer.
-use mathlib.Core.Path.{_≡_, refl}
+use mathlib.Core.Path.{_≡_, refl, ap}
 use Rattle.real.specs.Reply.{refused, given}
+use Rattle.real.specs.Roots.{Tally}
 use Rattle.real.proofs.Same.{told}
+use Rattle.plane.specs.declared.vector2.Vector2.{Vector2}
 use Rattle.seg.specs.Reply.{pointReply, boolReply}
 use Rattle.seg.specs.Arc.{arcReply}
 use Rattle.seg.specs.Split.{splitReply}
 use Rattle.seg.specs.Bounds.{boxReply}
+use Rattle.seg.specs.Closest.{pointTally}
 use Rattle.seg.specs.declared.answer.PointAnswer.{PointAnswer}
 use Rattle.seg.specs.declared.answer.PointAnswer.the-variants as point
 use Rattle.seg.specs.declared.answer.BoolAnswer.{BoolAnswer}
 use Rattle.seg.specs.declared.answer.BoolAnswer.the-variants as bool
+use Rattle.seg.specs.declared.closest.RootedPoint.{RootedPoint}
 use Rattle.seg.specs.declared.arc.ArcAnswer.{ArcAnswer}
 use Rattle.seg.specs.declared.arc.ArcAnswer.the-variants as arc
 use Rattle.seg.specs.declared.split.SplitAnswer.{SplitAnswer}
@@ -31,3 +35,7 @@ split-same = told (elim [ given x ↦ split.Given x | refused n ↦ split.Refuse
 
 pub box-same : (a b : BoxAnswer) → boxReply a ≡ boxReply b → a ≡ b
 box-same = told (elim [ given x ↦ box.Given x | refused n ↦ box.Refused n ]) (elim [ box.Given x ↦ refl | box.Refused n ↦ refl ])
+
+-- of a counted point its tally does
+pub rooted-same : (a b : RootedPoint) → pointTally a ≡ pointTally b → a ≡ b
+rooted-same a b e = ap {B = RootedPoint} (λ (t : Tally Vector2). record { point = t .value; roots = t .roots }) e
