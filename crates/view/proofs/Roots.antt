@@ -1,11 +1,11 @@
 -- Validation's roots: read without them its verdict is the same; a test takes at most one, none of a line or near an end, and validation makes two tests at most.
 use mathlib.Core.Path.{_≡_, refl, sym, ap, subst, _∙_}
-use mathlib.Core.Bool.{Bool, true, false, cond, not, _&&_, _||_}
+use mathlib.Core.Bool.{Bool, true, false, cond, not, _&&_, _||_, false≢true}
 use mathlib.Core.List.{List}
 use Prim.Native.Nat.{ℕ, _+_, _≤_}
 use native.Mathlib.Nat.{add-zero}
 use native.Mathlib.Omega.{arith}
-use lib.Dec.{ltb}
+use lib.Dec.{ltb, eqb}
 use lib.ListN.{length}
 use lib.Ieee.{Float}
 use Rattle.real.specs.Reply.{Reply, refused, given}
@@ -17,15 +17,14 @@ use Rattle.plane.specs.Vertex.{posOf, lineOf}
 use Rattle.plane.specs.declared.vector2.Vector2.{Vector2}
 use Rattle.plane.specs.declared.pline_vertex.PlineVertex.{PlineVertex}
 use Rattle.seg.specs.Arc.{centerOf, sweepsOver}
-use Rattle.seg.specs.Closest.{closestBy}
 use Rattle.seg.proofs.Uncounted.{chosen-value, closest-value}
 use Rattle.seg.proofs.Roots.{chosen-roots, closest-roots}
 use Rattle.lists.specs.View.{wrapped}
 use Rattle.view.specs.Outline.{vertexOf, vertexPast, countOf, numbersOk}
 use Rattle.view.specs.Record.{recordOk}
 use Rattle.view.specs.Segment.{nearEnd, nearClosestBy, onSegmentBy, onOutlineBy}
-use Rattle.view.specs.Validation.{Verdict, validationReply, startOff, endVerdict, placedBy, countsBy, validateBy, validateOf, validateCounted}
-use Rattle.view.specs.Roots.{uncounted, testRoots, Rootless, TestRoots, RootsTaken}
+use Rattle.view.specs.Validation.{Verdict, validationReply, startOff, endOff, endOnVertex, bulgesDiffer, valid, bulgesMatch, endVerdict, placedBy, countsBy, validateBy, validateOf, validateCounted}
+use Rattle.view.specs.Roots.{uncounted, testRoots, TestRoots, RootsTaken}
 use Rattle.view.specs.declared.view_data.PlineViewData.{PlineViewData}
 use Rattle.view.specs.declared.validation.ValidationAnswer.{ValidationAnswer}
 
@@ -44,16 +43,35 @@ few false false false false = omega arith
 none-of : (a b : Bool) (n : ℕ) → (b || a) ≡ true → cond a 0 (cond b 0 n) ≡ 0
 none-of true b n h = refl
 none-of false true n h = refl
-none-of false false n h = let z : _≡_ {A = ℕ} 0 1 = cc in absurd (omega arith)
+none-of false false n h = absurd (false≢true h)
 
--- a reply with at most m roots, if it is given
-abbrev UpTo : ℕ → Reply (Tally Verdict) → Type 0
-UpTo m (refused n) = Unit {0}
-UpTo m (given t) = t .roots ≤ m
+-- what a verdict takes whose two tests take m and n
+abbrev Takes : ℕ → ℕ → Tally Verdict → Type 0
+Takes m n t = t .roots ≡ cond (ltb (t .value .number) 3) 0 (cond (eqb (t .value .number) 3) m (m + n))
 
-upto-chosen : (m : ℕ) (b : Bool) (x y : Reply (Tally Verdict)) → UpTo m x → UpTo m y → UpTo m (cond b x y)
-upto-chosen m true x y p q = p
-upto-chosen m false x y p q = q
+takes-few : (x y : Bool) (m n : ℕ) → cond x 0 (cond y m (m + n)) ≤ m + n
+takes-few true y m n = omega arith
+takes-few false true m n = omega arith
+takes-few false false m n = omega arith
+
+-- of a reply, if it is given
+abbrev IfGiven : (Tally Verdict → Type 0) → Reply (Tally Verdict) → Type 0
+IfGiven P (refused n) = Unit {0}
+IfGiven P (given t) = P t
+
+given-chosen : (P : Tally Verdict → Type 0) (b : Bool) (x y : Reply (Tally Verdict)) → IfGiven P x → IfGiven P y → IfGiven P (cond b x y)
+given-chosen P true x y p q = p
+given-chosen P false x y p q = q
+
+-- a verdict past 3
+abbrev Later : Verdict → Type 0
+Later v = (m n : ℕ) → cond (ltb (v .number) 3) 0 (cond (eqb (v .number) 3) m (m + n)) ≡ m + n
+
+all-later : (a b c : Bool) (p q : Vector2) (v : PlineVertex) (x y : Float) → Later (cond a (endOff p) (cond b (endOnVertex q v) (cond c (bulgesDiffer x y) valid)))
+all-later true b c p q v x y m n = refl
+all-later false true c p q v x y m n = refl
+all-later false false true p q v x y m n = refl
+all-later false false false p q v x y m n = refl
 
 -- what validation makes of the start's test t and the end's u
 abbrev judged : Tally Bool → Tally Bool → Verdict → (Bool → Verdict) → Tally Verdict
@@ -63,15 +81,15 @@ judged t u off verdict =
 
 judged-off : (b : Bool) (n : ℕ) (u : Tally Bool) (off : Verdict) (verdict : Bool → Verdict) → not b ≡ true → tally off n ≡ judged (tally b n) u off verdict
 judged-off false n u off verdict h = ap (tally off) (sym (add-zero n))
-judged-off true n u off verdict h = let z : _≡_ {A = ℕ} 0 1 = cc in absurd (omega arith)
+judged-off true n u off verdict h = absurd (false≢true h)
 
 judged-on : (b : Bool) (n : ℕ) (u : Tally Bool) (off : Verdict) (verdict : Bool → Verdict) → not b ≡ false → tally (verdict (u .value)) (n + u .roots) ≡ judged (tally b n) u off verdict
 judged-on true n u off verdict h = ap (λ m. tally (verdict (u .value)) (n + m)) (sym (add-zero (u .roots)))
-judged-on false n u off verdict h = let z : _≡_ {A = ℕ} 0 1 = cc in absurd (omega arith)
+judged-on false n u off verdict h = absurd (false≢true (sym h))
 
-judged-few : (b : Bool) (n : ℕ) (u : Tally Bool) (off : Verdict) (verdict : Bool → Verdict) → judged (tally b n) u off verdict .roots ≤ n + u .roots
-judged-few true n u off verdict = omega arith
-judged-few false n u off verdict = omega arith
+judged-takes : (b : Bool) (n : ℕ) (u : Tally Bool) (p : Vector2) (verdict : Bool → Verdict) → ((on : Bool) → Later (verdict on)) → Takes n (u .roots) (judged (tally b n) u (startOff p) verdict)
+judged-takes false n u p verdict later = add-zero n
+judged-takes true n u p verdict later = ap (λ (m : ℕ). n + m) (add-zero (u .roots)) ∙ sym (later (u .value) n (u .roots))
 
 module _ (g : Grade) (limit : Float) where
   module _ (v1 v2 : PlineVertex) (p : Vector2) where
@@ -101,7 +119,7 @@ module _ (g : Grade) (limit : Float) where
     pub test-roots : TestRoots g limit s k p
     unfolding onOutlineBy
     test-roots =
-        record { none = λ h. test-exactly from to p ∙ none-of (nearEnd g from to p) (lineOf g limit from) _ h; exactly = test-exactly from to p }
+        record { stay = outline-value; none = λ h. test-exactly from to p ∙ none-of (nearEnd g from to p) (lineOf g limit from) _ h; exactly = test-exactly from to p }
 
     outline-few : testRoots g limit s k p ≤ 1
     outline-few =
@@ -147,24 +165,34 @@ module _ (g : Grade) (limit : Float) where
     pub verdict-told : {a b : ValidationAnswer} → validationReply a ≡ validateCounted g limit s d → a ≡ b → validateOf g limit s d ≡ uncounted (validationReply b)
     verdict-told e f = sym verdicts-stay ∙ ap uncounted (sym e) ∙ ap (λ (a : ValidationAnswer). uncounted (validationReply a)) f
 
-    abbrev bound : ℕ
-    bound = testRoots g limit s (d .«start_index») first + testRoots g limit s last (d .«end_point»)
+    abbrev start-roots : ℕ
+    start-roots = testRoots g limit s (d .«start_index») first
 
-    placed-few : placedBy counting g limit s d .roots ≤ bound
+    abbrev end-roots : ℕ
+    end-roots = testRoots g limit s last (d .«end_point»)
+
+    end-later : (on : Bool) → Later (ending on)
+    unfolding endVerdict
+    end-later on = all-later (not on) (vnearOf g (d .«end_point») (posOf (vertexOf s last)) (g .onVertex)) (not (bulgesMatch g d)) _ _ _ _ _
+
+    placed-takes : Takes start-roots end-roots (placedBy counting g limit s d)
     unfolding placedBy
-    placed-few = judged-few (onOutlineBy counting g limit s (d .«start_index») first .value) _ (onOutlineBy counting g limit s last (d .«end_point»)) (startOff first) ending
+    placed-takes = judged-takes (onOutlineBy counting g limit s (d .«start_index») first .value) _ (onOutlineBy counting g limit s last (d .«end_point»)) first ending end-later
 
-    all-few : UpTo bound (validateCounted g limit s d)
+    all-take : IfGiven (Takes start-roots end-roots) (validateCounted g limit s d)
     unfolding validateBy countsBy
-    all-few =
-        upto-chosen bound (not (wholeOutline (length s))) _ _ tt
-        (upto-chosen bound (not (numbersOk g s && recordOk g d)) _ _ tt
-        (upto-chosen bound (ltb (countOf s) 2) _ _ (omega arith)
-        (upto-chosen bound (ltb (countOf s) (d .«end_index_offset»)) _ _ (omega arith)
-        (upto-chosen bound (not (ltb (d .«start_index») (countOf s))) _ _ tt placed-few))))
+    all-take =
+        given-chosen (Takes start-roots end-roots) (not (wholeOutline (length s))) _ _ tt
+        (given-chosen (Takes start-roots end-roots) (not (numbersOk g s && recordOk g d)) _ _ tt
+        (given-chosen (Takes start-roots end-roots) (ltb (countOf s) 2) _ _ refl
+        (given-chosen (Takes start-roots end-roots) (ltb (countOf s) (d .«end_index_offset»)) _ _ refl
+        (given-chosen (Takes start-roots end-roots) (not (ltb (d .«start_index») (countOf s))) _ _ tt placed-takes))))
 
-    at-most : (t : Tally Verdict) → validateCounted g limit s d ≡ given t → t .roots ≤ bound
-    at-most t e = subst (UpTo bound) e all-few
+    takes : (t : Tally Verdict) → validateCounted g limit s d ≡ given t → Takes start-roots end-roots t
+    takes t e = subst (IfGiven (Takes start-roots end-roots)) e all-take
+
+    at-most : (t : Tally Verdict) → validateCounted g limit s d ≡ given t → t .roots ≤ start-roots + end-roots
+    at-most t e = rw (takes t e) (takes-few (ltb (t .value .number) 3) (eqb (t .value .number) 3) start-roots end-roots)
 
     pub roots-taken : RootsTaken g limit s d
     roots-taken =
@@ -172,6 +200,7 @@ module _ (g : Grade) (limit : Float) where
         let b = outline-few s last (d .«end_point») in
         record {
           stay = verdicts-stay;
+          exactly = takes;
           most = λ t e. let h = at-most t e in omega arith;
           none = λ t e r q. let h = at-most t e in let x = test-roots s (d .«start_index») first .none r in let y = test-roots s last (d .«end_point») .none q in omega arith;
           start-none = λ t e r. let h = at-most t e in let x = test-roots s (d .«start_index») first .none r in omega arith;

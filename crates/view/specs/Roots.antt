@@ -2,7 +2,8 @@
 use mathlib.Core.Path.{_≡_}
 use mathlib.Core.Bool.{true, false, cond, _||_}
 use mathlib.Core.List.{List, [], _∷_}
-use Prim.Native.Nat.{ℕ, _≤_}
+use Prim.Native.Nat.{ℕ, _+_, _≤_}
+use lib.Dec.{ltb, eqb}
 use lib.Ieee.{Float}
 use Rattle.real.specs.Reply.{Reply, refused, given}
 use Rattle.real.specs.Roots.{Tally, tally, counting}
@@ -15,7 +16,7 @@ use Rattle.seg.specs.Arc.{centerOf, sweepsOver}
 use Rattle.seg.specs.Cases.{f64, vec}
 use Rattle.lists.specs.View.{wrapped}
 use Rattle.view.specs.Outline.{vertexOf, vertexPast, countOf}
-use Rattle.view.specs.Segment.{nearEnd, onOutlineBy}
+use Rattle.view.specs.Segment.{nearEnd, onOutlineBy, onOutline}
 use Rattle.view.specs.Validation.{Verdict, startOff, endOff, valid, validateOf, validateCounted}
 use Rattle.view.specs.Cases.{Q, R}
 use Rattle.view.specs.declared.view_data.PlineViewData.{PlineViewData}
@@ -43,6 +44,8 @@ module _ (g : Grade) (limit : Float) (s : List Float) where
     Rootless = (lineOf g limit from || nearEnd g from to p) ≡ true
 
     pub record TestRoots : Type 0 where
+      -- without its roots it is the test alone
+      pub stay : onOutlineBy counting g limit s k p .value ≡ onOutline g limit s k p
       -- "takes none"
       pub none : Rootless → testRoots ≡ 0
       -- and just when a test takes one: of an arc, the point away from both ends and from the centre, in the sweep
@@ -62,6 +65,11 @@ module _ (g : Grade) (limit : Float) (s : List Float) where
     pub record RootsTaken : Type 0 where
       -- "Verdicts stay."
       pub stay : uncounted (validateCounted g limit s d) ≡ validateOf g limit s d
+      -- verdicts 1 and 2 take none, 3 what the start's test takes, and each later one what both tests take
+      pub exactly : (t : Tally Verdict) → validateCounted g limit s d ≡ given t → t .roots ≡
+          cond (ltb (t .value .number) 3) 0
+          (cond (eqb (t .value .number) 3) (testRoots (d .«start_index») first)
+          (testRoots (d .«start_index») first + testRoots last (d .«end_point»)))
       -- "prove that this is at most two"
       pub most : (t : Tally Verdict) → validateCounted g limit s d ≡ given t → t .roots ≤ 2
       -- none where neither end's test takes one, and at most one where either does not
