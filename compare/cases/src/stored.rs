@@ -329,8 +329,8 @@ pub const ARCH: [f64; 6] = [0.0, 0.0, 1.0, 10.0, 0.0, 0.0];
 
 /// Verdicts by the square roots that they take. Along the half circle: none from end to end, one to a point between, two
 /// between two such points; one and none where the start is off it and at its centre; two where the end is off it. Along
-/// the line back none, and none within 0.001 mm of an end. Then on Q, whose outline has lines and an arc; last a buffer of
-/// three words.
+/// the line back none. One from within 0.001 mm of the half circle's end, two from just past that. Then on Q, which has
+/// lines and an arc; last a buffer of three words.
 pub fn rooted() -> Vec<Case> {
     let along = |start_index, [x, y]: [f64; 2], [end_x, end_y]: [f64; 2], bulge| PlineViewData {
         start_index,

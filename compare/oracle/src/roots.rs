@@ -142,7 +142,7 @@ impl PlineSource for CountedOutline<'_> {
     }
 }
 
-/// The square roots that the text takes on its way to this verdict, which it gives again.
+/// The square roots that the text takes on its way to this verdict, whose number it gives again.
 pub(crate) fn taken(
     source: &Outline,
     record: &PlineViewData,
