@@ -8,7 +8,7 @@ use lib.ListN.{length}
 use borrow.Author.Tests.{le-leb, lt-leb}
 use Rattle.real.specs.Refusal.{badNumber, badOutline, badSheet, badRecord}
 use Rattle.real.specs.Reply.{given, check}
-use Rattle.real.specs.Roots.{plain}
+use Rattle.real.specs.Tally.{plain}
 use Rattle.plane.specs.Grade.{double}
 use Rattle.plane.specs.Range.{mostVertices, wholeOutline}
 use Rattle.lists.proofs.Tab.{length-tab}

@@ -9,7 +9,7 @@ use lib.Dec.{leb, eqb}
 use lib.Ieee.{Float}
 use Rattle.real.specs.Refusal.{badNumber, badOutline, badSheet, badRecord}
 use Rattle.real.specs.Reply.{Reply, given, check}
-use Rattle.real.specs.Roots.{plain}
+use Rattle.real.specs.Tally.{plain}
 use Rattle.plane.specs.Grade.{double}
 use Rattle.plane.specs.Range.{mostVertices}
 use Rattle.view.specs.Outline.{numbersOk}

@@ -5,7 +5,7 @@ use Prim.Native.Nat.{ℕ}
 use lib.ListN.{length, getD}
 use lib.Ieee.{Float}
 use Rattle.real.specs.Reply.{Reply, given, andThen}
-use Rattle.real.specs.Roots.{Tally}
+use Rattle.real.specs.Tally.{Tally}
 use Rattle.plane.specs.Grade.{double}
 use Rattle.plane.specs.declared.vector2.Vector2.{Vector2}
 use Rattle.plane.specs.declared.pline_vertex.PlineVertex.{PlineVertex}

@@ -7,7 +7,7 @@ use view::ValidationAnswer;
 use view::ViewDataValidation;
 ghost use mathlib.Core.Path.{_≡_};
 ghost use Rattle.real.specs.Reply.{given};
-ghost use Rattle.real.specs.Roots.{tally};
+ghost use Rattle.real.specs.Tally.{tally};
 ghost use Rattle.view.specs.Validation.{verdictOf, judgedTally, validationReply};
 ghost use Rattle.lent.specs.Lent.{both, BothAnswered};
 ghost use Rattle.lent.specs.Values.{verdictWords, verdictNumbers, verdictValues};

@@ -1,7 +1,7 @@
 -- Two tallies are one: so are their values and their roots. And a tally tells the code's answer.
 use mathlib.Core.Path.{_≡_, ap}
 use lib.Ieee.{Float}
-use Rattle.real.specs.Roots.{Tally, numberTally}
+use Rattle.real.specs.Tally.{Tally, numberTally}
 use Rattle.real.specs.declared.square_root.RootedNumber.{RootedNumber}
 
 pub value-of : {A : Type 0} {t u : Tally A} → t ≡ u → t .value ≡ u .value

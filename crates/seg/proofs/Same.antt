@@ -1,7 +1,7 @@
 -- No second answer fits a promise: a reply tells its answer.
 use mathlib.Core.Path.{_≡_, refl, ap}
 use Rattle.real.specs.Reply.{refused, given}
-use Rattle.real.specs.Roots.{Tally}
+use Rattle.real.specs.Tally.{Tally}
 use Rattle.real.proofs.Same.{told}
 use Rattle.plane.specs.declared.vector2.Vector2.{Vector2}
 use Rattle.seg.specs.Reply.{pointReply, boolReply}

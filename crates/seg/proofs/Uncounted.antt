@@ -2,7 +2,7 @@
 use mathlib.Core.Path.{_≡_, refl}
 use mathlib.Core.Bool.{Bool, true, false, cond}
 use lib.Ieee.{Float}
-use Rattle.real.specs.Roots.{Tally, plain, counting}
+use Rattle.real.specs.Tally.{Tally, plain, counting}
 use Rattle.plane.specs.Grade.{Grade}
 use Rattle.plane.specs.declared.vector2.Vector2.{Vector2}
 use Rattle.plane.specs.declared.pline_vertex.PlineVertex.{PlineVertex}

@@ -2,7 +2,7 @@
 use mathlib.Core.Bool.{Bool, cond}
 use lib.Ieee.{Float, lt}
 use Rattle.real.specs.Root.{absOf}
-use Rattle.real.specs.Roots.{Way, Tally, tally, plain}
+use Rattle.real.specs.Tally.{Way, Tally, tally, plain}
 use Rattle.real.specs.Refusal.{badNumber, badTolerance}
 use Rattle.real.specs.Reply.{Reply, given, check}
 use Rattle.plane.specs.Grade.{Grade, Arith, arith}

@@ -17,7 +17,7 @@ use real::RootedNumber;
 use real::counted_root;
 use real::magnitude;
 ghost use mathlib.Core.Path.{_≡_};
-ghost use Rattle.real.specs.Roots.{counting, numberTally};
+ghost use Rattle.real.specs.Tally.{counting, numberTally};
 ghost use Rattle.plane.specs.Grade.{double};
 ghost use Rattle.plane.specs.Vertex.{posOf};
 ghost use Rattle.seg.specs.Reply.{pointReply};

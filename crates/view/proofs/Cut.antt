@@ -10,7 +10,7 @@ use lib.Ieee.{Float}
 use borrow.Author.Tests.{lt-ltb, le-ltb, ltb-true, ltb-false, le-leb, leb-false, lt-leb, not-false}
 use Rattle.real.specs.Refusal.{badNumber, badOutline, badIndex}
 use Rattle.real.specs.Reply.{Reply, given, check}
-use Rattle.real.specs.Roots.{plain}
+use Rattle.real.specs.Tally.{plain}
 use Rattle.real.proofs.Replies.{and-both}
 use Rattle.plane.specs.Grade.{Grade}
 use Rattle.plane.specs.Vec.{vnearOf}

@@ -14,4 +14,4 @@ use Rattle.view.specs.Roots.{Arch, along, RootCases}
 
 pub root-cases : RootCases
 unfolding Arch along Q like-R neg add sub mul div lt le eq ofBits ofFields odd absOf rootOf coordOk bulgeOk pointOk vertexOk wholeOutline all numbersOk recordOk validateBy countsBy placedBy endVerdict bulgesMatch onOutlineBy onSegmentBy nearClosestBy closestBy arcClosestBy radialBy radialScaleBy centerOf
-root-cases = record { zero-roots = refl; one-root = refl; two-roots = refl; start-off = refl; at-centre = refl; end-off = refl; lines = refl }
+root-cases = record { zero-roots = refl; one-root = refl; two-roots = refl; one-point = refl; start-off = refl; at-centre = refl; end-off = refl; lines = refl }

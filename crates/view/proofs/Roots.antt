@@ -9,7 +9,7 @@ use lib.Dec.{ltb, eqb}
 use lib.ListN.{length}
 use lib.Ieee.{Float}
 use Rattle.real.specs.Reply.{Reply, refused, given}
-use Rattle.real.specs.Roots.{Tally, tally, plain, counting}
+use Rattle.real.specs.Tally.{Tally, tally, plain, counting}
 use Rattle.plane.specs.Grade.{Grade}
 use Rattle.plane.specs.Range.{wholeOutline}
 use Rattle.plane.specs.Vec.{vnearOf}

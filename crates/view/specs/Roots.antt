@@ -6,7 +6,7 @@ use Prim.Native.Nat.{ℕ, _+_, _≤_}
 use lib.Dec.{ltb, eqb}
 use lib.Ieee.{Float}
 use Rattle.real.specs.Reply.{Reply, refused, given}
-use Rattle.real.specs.Roots.{Tally, tally, counting}
+use Rattle.real.specs.Tally.{Tally, tally, counting}
 use Rattle.plane.specs.Grade.{Grade, double}
 use Rattle.plane.specs.Vec.{vnearOf}
 use Rattle.plane.specs.Vertex.{vertexAt, posOf, lineOf}
@@ -113,6 +113,8 @@ pub record RootCases : Type 0 where
   pub zero-roots : validateCounted double line Arch (along (vec zero zero) (vec ten zero)) ≡ given (tally valid 0)
   pub one-root : validateCounted double line Arch (along (vec zero zero) (vec eight minusFour)) ≡ given (tally valid 1)
   pub two-roots : validateCounted double line Arch (along (vec two minusFour) (vec eight minusFour)) ≡ given (tally valid 2)
+  -- a start and an end that are one point are tested one after the other, as in the crate
+  pub one-point : validateCounted double line Arch (along (vec two minusFour) (vec two minusFour)) ≡ given (tally valid 2)
   -- a start off the arc takes one root to be told so, and at the centre none; the end is then not looked at
   pub start-off : validateCounted double line Arch (along (vec five minusFour) (vec eight minusFour)) ≡ given (tally (startOff (vec five minusFour)) 1)
   pub at-centre : validateCounted double line Arch (along (vec five zero) (vec eight minusFour)) ≡ given (tally (startOff (vec five zero)) 0)

@@ -7,7 +7,7 @@ use lib.ListN.{length}
 use lib.Ieee.{Float}
 use Rattle.real.specs.Refusal.{badNumber, badOutline, badIndex}
 use Rattle.real.specs.Reply.{Reply, refused, given, check}
-use Rattle.real.specs.Roots.{Way, Tally, tally, plain, counting}
+use Rattle.real.specs.Tally.{Way, Tally, tally, plain, counting}
 use Rattle.plane.specs.Grade.{Grade}
 use Rattle.plane.specs.Vec.{nearOf, vnearOf}
 use Rattle.plane.specs.Vertex.{posOf}

@@ -7,7 +7,7 @@ use seg::SplitResult;
 use seg::closest_point;
 use seg::split_at_point;
 ghost use mathlib.Core.Path.{_≡_};
-ghost use Rattle.real.specs.Roots.{counting};
+ghost use Rattle.real.specs.Tally.{counting};
 ghost use Rattle.plane.specs.Grade.{double};
 ghost use Rattle.view.specs.Needs.{Index};
 ghost use Rattle.view.specs.Segment.{testTally, nearEnd, nearClosestBy, onSegmentBy, onOutlineBy, splitSegment};

@@ -18,7 +18,7 @@ use real::BAD_NUMBER;
 use real::BAD_OUTLINE;
 ghost use mathlib.Core.Path.{_≡_};
 ghost use Prim.Native.Nat.{_+_, _≤_};
-ghost use Rattle.real.specs.Roots.{tally, counting};
+ghost use Rattle.real.specs.Tally.{tally, counting};
 ghost use Rattle.plane.specs.Grade.{double};
 ghost use Rattle.plane.specs.Range.{mostVertices};
 ghost use Rattle.view.specs.Outline.{countOf};

@@ -3,7 +3,7 @@ use mathlib.Core.Path.{_≡_}
 use mathlib.Core.List.{List}
 use Prim.Native.Nat.{ℕ}
 use borrow.Author.Needs.{needs}
-use Rattle.real.specs.Roots.{tally}
+use Rattle.real.specs.Tally.{tally}
 use Rattle.view.specs.Validation.{verdictOf}
 use Rattle.view.specs.declared.validation.ViewDataValidation.{ViewDataValidation}
 use Rattle.lent.specs.Values.{verdictWords}
