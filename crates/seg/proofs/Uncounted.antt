@@ -13,7 +13,7 @@ pub chosen-value : {A : Type 0} (b : Bool) (x y : Tally A) → cond b x y .value
 chosen-value true x y = refl
 chosen-value false x y = refl
 
-module _ (g : Grade) (limit : Float) (v1 v2 : PlineVertex) (p : Vector2) (eps : Float) where
+module _ (g : Grade) (v1 v2 : PlineVertex) (p : Vector2) (eps : Float) where
   radial-value : (center : Vector2) → radialBy counting g v1 v2 center p .value ≡ radialBy plain g v1 v2 center p
   unfolding radialBy radialScaleBy
   radial-value center = refl
@@ -22,6 +22,6 @@ module _ (g : Grade) (limit : Float) (v1 v2 : PlineVertex) (p : Vector2) (eps : 
   unfolding arcClosestBy
   arc-value center = simp (chosen-value, radial-value)
 
-  pub closest-value : closestBy counting g limit v1 v2 p eps .value ≡ closestBy plain g limit v1 v2 p eps
+  pub closest-value : (limit : Float) → closestBy counting g limit v1 v2 p eps .value ≡ closestBy plain g limit v1 v2 p eps
   unfolding closestBy
-  closest-value = simp (chosen-value, arc-value)
+  closest-value limit = simp (chosen-value, arc-value)

@@ -2,13 +2,13 @@
 use mathlib.Core.Bool.{Bool, cond}
 use lib.Ieee.{Float, lt}
 use Rattle.real.specs.Root.{absOf}
-use Rattle.real.specs.Refusal.{badNumber, noArc}
+use Rattle.real.specs.Refusal.{badNumber, badTolerance, noArc}
 use Rattle.real.specs.Reply.{Reply, refused, given, check}
 use Rattle.plane.specs.Grade.{Grade, Arith, arith}
 use Rattle.plane.specs.Vec.{vaddOf, vsubOf, scaleOf, perpOf, lengthOf, vnearOf}
 use Rattle.plane.specs.Math.{inSweep}
 use Rattle.plane.specs.Vertex.{posOf, lineOf}
-use Rattle.plane.specs.Range.{segOk}
+use Rattle.plane.specs.Range.{limitOk, segOk}
 use Rattle.plane.specs.declared.vector2.Vector2.{Vector2}
 use Rattle.plane.specs.declared.pline_vertex.PlineVertex.{PlineVertex}
 use Rattle.seg.specs.declared.arc.Circle.{Circle}
@@ -55,6 +55,7 @@ module _ (g : Grade) where
     unfoldable pub segCircle : PlineVertex → PlineVertex → Reply Circle
     segCircle v1 v2 =
         check (segOk g v1 v2) badNumber
+        (check (limitOk g limit) badTolerance
         (cond (lineOf g limit v1) (refused noArc)
         (cond (vnearOf g (posOf v1) (posOf v2) fuzz) (refused noArc)
-        (given (circleOf v1 v2))))
+        (given (circleOf v1 v2)))))

@@ -1,13 +1,13 @@
 -- The box of pline_seg.rs: `line_seg_bounding_box`, `arc_seg_bounding_box`, `seg_bounding_box`.
 use mathlib.Core.Bool.{Bool, cond, not, _&&_, _||_}
 use lib.Ieee.{Float, lt}
-use Rattle.real.specs.Refusal.{badNumber}
+use Rattle.real.specs.Refusal.{badNumber, badTolerance}
 use Rattle.real.specs.Reply.{Reply, refused, given, check}
 use Rattle.plane.specs.Grade.{Grade, Arith, arith}
 use Rattle.plane.specs.Vec.{vaddOf, vsubOf, scaleOf, perpOf, vnearOf}
 use Rattle.plane.specs.Math.{minMaxOf}
 use Rattle.plane.specs.Vertex.{posOf, lineOf}
-use Rattle.plane.specs.Range.{segOk}
+use Rattle.plane.specs.Range.{limitOk, segOk}
 use Rattle.plane.specs.declared.vector2.Vector2.{Vector2}
 use Rattle.plane.specs.declared.pline_vertex.PlineVertex.{PlineVertex}
 use Rattle.seg.specs.Arc.{chordOf, circleOf}
@@ -84,4 +84,7 @@ module _ (g : Grade) where
     boxOf v1 v2 = cond (lineOf g limit v1) (lineBox (posOf v1) (posOf v2)) (arcBox v1 v2)
 
     unfoldable pub segBox : PlineVertex → PlineVertex → Reply Bounds
-    segBox v1 v2 = check (segOk g v1 v2) badNumber (given (boxOf v1 v2))
+    segBox v1 v2 =
+        check (segOk g v1 v2) badNumber
+        (check (limitOk g limit) badTolerance
+        (given (boxOf v1 v2)))

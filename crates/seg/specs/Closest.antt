@@ -1,5 +1,5 @@
 -- `seg_closest_point` of pline_seg.rs, over a way w of taking roots.
-use mathlib.Core.Bool.{Bool, cond}
+use mathlib.Core.Bool.{Bool, cond, _&&_}
 use lib.Ieee.{Float, lt}
 use Rattle.real.specs.Root.{absOf}
 use Rattle.real.specs.Tally.{Way, Tally, tally, plain}
@@ -9,7 +9,7 @@ use Rattle.plane.specs.Grade.{Grade, Arith, arith}
 use Rattle.plane.specs.Vec.{vaddOf, vsubOf, scaleOf, lengthSqOf, vnearOf}
 use Rattle.plane.specs.Math.{distSqOf, lineNearest}
 use Rattle.plane.specs.Vertex.{posOf, lineOf}
-use Rattle.plane.specs.Range.{tolOk, pointOk, segOk}
+use Rattle.plane.specs.Range.{tolOk, limitOk, pointOk, segOk}
 use Rattle.plane.specs.declared.vector2.Vector2.{Vector2}
 use Rattle.plane.specs.declared.pline_vertex.PlineVertex.{PlineVertex}
 use Rattle.seg.specs.Arc.{chordOf, invFourBulge, centerOf, sweepsOver}
@@ -63,5 +63,5 @@ module _ (g : Grade) (limit : Float) where
   segClosest v1 v2 p eps =
       check (segOk g v1 v2) badNumber
       (check (pointOk g p) badNumber
-      (check (tolOk g eps) badTolerance
+      (check (tolOk g eps && limitOk g limit) badTolerance
       (given (closestOf v1 v2 p eps))))

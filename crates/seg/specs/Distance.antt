@@ -8,7 +8,7 @@ use Rattle.plane.specs.Grade.{Grade, Arith, arith}
 use Rattle.plane.specs.Vec.{vsubOf, dotOf, perpDotOf, lengthSqOf, vnearOf}
 use Rattle.plane.specs.Math.{distSqOf}
 use Rattle.plane.specs.Vertex.{posOf, lineOf}
-use Rattle.plane.specs.Range.{coordOk, tolOk, pointOk, segOk}
+use Rattle.plane.specs.Range.{coordOk, tolOk, limitOk, pointOk, segOk}
 use Rattle.plane.specs.declared.vector2.Vector2.{Vector2}
 use Rattle.plane.specs.declared.pline_vertex.PlineVertex.{PlineVertex}
 use Rattle.seg.specs.Arc.{radiusOf, centerOf, sweepsOver}
@@ -62,5 +62,5 @@ module _ (g : Grade) where
         check (segOk g v1 v2) badNumber
         (check (pointOk g p) badNumber
         (check (coordOk g distance) badNumber
-        (check (tolOk g eps) badTolerance
+        (check (tolOk g eps && limitOk g limit) badTolerance
         (given (farOf v1 v2 p (absOf distance) eps)))))

@@ -1,12 +1,12 @@
 -- `seg_midpoint` of pline_seg.rs.
 use mathlib.Core.Bool.{cond}
 use lib.Ieee.{Float}
-use Rattle.real.specs.Refusal.{badNumber}
+use Rattle.real.specs.Refusal.{badNumber, badTolerance}
 use Rattle.real.specs.Reply.{Reply, given, check}
 use Rattle.plane.specs.Grade.{Grade, Arith, arith}
 use Rattle.plane.specs.Math.{midpointOf}
 use Rattle.plane.specs.Vertex.{posOf, lineOf}
-use Rattle.plane.specs.Range.{segOk}
+use Rattle.plane.specs.Range.{limitOk, segOk}
 use Rattle.plane.specs.declared.vector2.Vector2.{Vector2}
 use Rattle.plane.specs.declared.pline_vertex.PlineVertex.{PlineVertex}
 
@@ -27,4 +27,7 @@ module _ (g : Grade) where
     midOf v1 v2 = cond (lineOf g limit v1) (midpointOf g (posOf v1) (posOf v2)) (arcMid v1 v2)
 
     unfoldable pub segMid : PlineVertex → PlineVertex → Reply Vector2
-    segMid v1 v2 = check (segOk g v1 v2) badNumber (given (midOf v1 v2))
+    segMid v1 v2 =
+        check (segOk g v1 v2) badNumber
+        (check (limitOk g limit) badTolerance
+        (given (midOf v1 v2)))

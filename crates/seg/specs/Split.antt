@@ -1,5 +1,5 @@
 -- `seg_split_at_point` of pline_seg.rs. "Split tests in order: line; ends equal or point at start; point at end; arc."
-use mathlib.Core.Bool.{Bool, cond}
+use mathlib.Core.Bool.{Bool, cond, _&&_}
 use lib.Ieee.{Float, lt, le, neg}
 use Rattle.real.specs.Root.{absOf, rootOf}
 use Rattle.real.specs.Refusal.{badNumber, badTolerance}
@@ -7,7 +7,7 @@ use Rattle.real.specs.Reply.{Reply, refused, given, check}
 use Rattle.plane.specs.Grade.{Grade, Arith, arith}
 use Rattle.plane.specs.Vec.{vsubOf, lengthSqOf, vnearOf}
 use Rattle.plane.specs.Vertex.{vertexAt, posOf, lineOf}
-use Rattle.plane.specs.Range.{tolOk, pointOk, segOk}
+use Rattle.plane.specs.Range.{tolOk, limitOk, pointOk, segOk}
 use Rattle.plane.specs.declared.vector2.Vector2.{Vector2}
 use Rattle.plane.specs.declared.pline_vertex.PlineVertex.{PlineVertex}
 use Rattle.seg.specs.Arc.{chordOf}
@@ -79,5 +79,5 @@ module _ (g : Grade) where
     segSplit v1 v2 p eps =
         check (segOk g v1 v2) badNumber
         (check (pointOk g p) badNumber
-        (check (tolOk g eps) badTolerance
+        (check (tolOk g eps && limitOk g limit) badTolerance
         (given (splitOf v1 v2 p eps))))

@@ -2,12 +2,12 @@
 use mathlib.Core.Bool.{cond}
 use lib.Ieee.{Float}
 use Rattle.real.specs.Root.{absOf}
-use Rattle.real.specs.Refusal.{badNumber}
+use Rattle.real.specs.Refusal.{badNumber, badTolerance}
 use Rattle.real.specs.Reply.{Reply, given, check}
 use Rattle.plane.specs.Grade.{Grade, Arith, arith}
 use Rattle.plane.specs.Vec.{vaddOf, vsubOf, scaleOf, perpOf}
 use Rattle.plane.specs.Vertex.{posOf, lineOf}
-use Rattle.plane.specs.Range.{pointOk, segOk}
+use Rattle.plane.specs.Range.{limitOk, pointOk, segOk}
 use Rattle.plane.specs.declared.vector2.Vector2.{Vector2}
 use Rattle.plane.specs.declared.pline_vertex.PlineVertex.{PlineVertex}
 use Rattle.seg.specs.Arc.{chordOf}
@@ -34,4 +34,5 @@ module _ (g : Grade) where
     segTangent v1 v2 p =
         check (segOk g v1 v2) badNumber
         (check (pointOk g p) badNumber
-        (given (tangentOf v1 v2 p)))
+        (check (limitOk g limit) badTolerance
+        (given (tangentOf v1 v2 p))))

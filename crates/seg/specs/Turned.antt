@@ -28,13 +28,13 @@ abbrev pub beyond : Float
 beyond = f64 0x412e_8482_0000_0000
 
 abbrev pub splitStep : Vector2 → Part → SplitStep
-splitStep p part = record { point = p; tolerance = onVertex; part = part }
+splitStep p part = record { point = p; tolerance = onVertex; limit = line; part = part }
 
 pub record Turned : Type 0 where
   -- the first result is a half circle, and the second bows to the other side
-  pub results : splitBy double line (splitStep off first) arc ≡ given (splitAt (posOf (arc .start)) one off minusThird)
+  pub results : splitBy double (splitStep off first) arc ≡ given (splitAt (posOf (arc .start)) one off minusThird)
   -- a row goes on with either: "the first towards the split point, the second towards the old end"
-  pub first-on : splitRow double line (splitStep off first ∷ []) arc ≡ given (record { start = vertexAt zero zero one; end = vertexAt minusOne one minusThird })
-  pub second-on : splitRow double line (splitStep off second ∷ []) arc ≡ given (record { start = vertexAt minusOne one minusThird; end = arc .end })
+  pub first-on : splitRow double (splitStep off first ∷ []) arc ≡ given (record { start = vertexAt zero zero one; end = vertexAt minusOne one minusThird })
+  pub second-on : splitRow double (splitStep off second ∷ []) arc ≡ given (record { start = vertexAt minusOne one minusThird; end = arc .end })
   -- a point out of range is refused, and nothing goes on
-  pub stops : splitRow double line (splitStep off second ∷ splitStep (vec zero beyond) first ∷ splitStep off first ∷ []) arc ≡ refused badNumber
+  pub stops : splitRow double (splitStep off second ∷ splitStep (vec zero beyond) first ∷ splitStep off first ∷ []) arc ≡ refused badNumber

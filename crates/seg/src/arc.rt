@@ -2,9 +2,11 @@
 use plane::FUZZ;
 use plane::PlineVertex;
 use plane::Vector2;
+use plane::limit_in_range;
 use plane::point_within_arc_sweep;
 use plane::seg_in_range;
 use real::BAD_NUMBER;
+use real::BAD_TOLERANCE;
 use real::NO_ARC;
 use real::magnitude;
 ghost use mathlib.Core.Path.{_≡_};
@@ -76,13 +78,16 @@ pub fn arc_circle(v1: PlineVertex, v2: PlineVertex) -> Circle
     Circle { radius, center }
 }
 
-pub fn seg_arc_radius_and_center(v1: PlineVertex, v2: PlineVertex) -> ArcAnswer
-    ensures { λ r. ⌜ arcReply r ≡ segCircle double (double .line) v1 v2 ⌝ }
+pub fn seg_arc_radius_and_center(v1: PlineVertex, v2: PlineVertex, limit: f64) -> ArcAnswer
+    ensures { λ r. ⌜ arcReply r ≡ segCircle double limit v1 v2 ⌝ }
 {
     if !seg_in_range(v1, v2) {
         return ArcAnswer::Refused(BAD_NUMBER);
     }
-    if v1.bulge_is_zero() {
+    if !limit_in_range(limit) {
+        return ArcAnswer::Refused(BAD_TOLERANCE);
+    }
+    if v1.bulge_is_zero(limit) {
         return ArcAnswer::Refused(NO_ARC);
     }
     if ends_meet(v1, v2, FUZZ) {

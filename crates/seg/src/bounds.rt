@@ -6,9 +6,11 @@ use crate::arc::ends_meet;
 use plane::FUZZ;
 use plane::PlineVertex;
 use plane::Vector2;
+use plane::limit_in_range;
 use plane::min_max;
 use plane::seg_in_range;
 use real::BAD_NUMBER;
+use real::BAD_TOLERANCE;
 ghost use mathlib.Core.Path.{_≡_};
 ghost use mathlib.Core.Bool.{cond};
 ghost use Rattle.plane.specs.Grade.{double};
@@ -137,20 +139,23 @@ fn arc_seg_bounding_box(v1: PlineVertex, v2: PlineVertex) -> Bounds
     arc_box(v1, v2, ends_box(v1, v2), arc_crossings(v1, v2))
 }
 
-fn true_box(v1: PlineVertex, v2: PlineVertex) -> Bounds
-    ensures { λ r. ⌜ r ≡ boxOf double (double .line) v1 v2 ⌝ }
+fn true_box(v1: PlineVertex, v2: PlineVertex, limit: f64) -> Bounds
+    ensures { λ r. ⌜ r ≡ boxOf double limit v1 v2 ⌝ }
 {
-    if v1.bulge_is_zero() {
+    if v1.bulge_is_zero(limit) {
         return ends_box(v1, v2);
     }
     arc_seg_bounding_box(v1, v2)
 }
 
-pub fn seg_bounding_box(v1: PlineVertex, v2: PlineVertex) -> BoxAnswer
-    ensures { λ r. ⌜ boxReply r ≡ segBox double (double .line) v1 v2 ⌝ }
+pub fn seg_bounding_box(v1: PlineVertex, v2: PlineVertex, limit: f64) -> BoxAnswer
+    ensures { λ r. ⌜ boxReply r ≡ segBox double limit v1 v2 ⌝ }
 {
     if !seg_in_range(v1, v2) {
         return BoxAnswer::Refused(BAD_NUMBER);
     }
-    BoxAnswer::Given(true_box(v1, v2))
+    if !limit_in_range(limit) {
+        return BoxAnswer::Refused(BAD_TOLERANCE);
+    }
+    BoxAnswer::Given(true_box(v1, v2, limit))
 }

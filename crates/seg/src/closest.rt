@@ -10,7 +10,7 @@ use plane::dist_squared;
 use plane::line_seg_closest_point;
 use plane::point_in_range;
 use plane::seg_in_range;
-use plane::tol_in_range;
+use plane::tol_and_limit_in_range;
 use real::BAD_NUMBER;
 use real::BAD_TOLERANCE;
 use real::RootedNumber;
@@ -90,11 +90,17 @@ fn arc_closest(
     at_vertex(v2)
 }
 
-// The closest point and its roots, for any numbers and any tolerance.
-pub fn closest_point(v1: PlineVertex, v2: PlineVertex, p: Vector2, eps: f64) -> RootedPoint
-    ensures { λ r. ⌜ pointTally r ≡ closestBy counting double (double .line) v1 v2 p eps ⌝ }
+// The closest point and its roots, for any numbers, any tolerance and any limit.
+pub fn closest_point(
+    v1: PlineVertex,
+    v2: PlineVertex,
+    p: Vector2,
+    eps: f64,
+    limit: f64,
+) -> RootedPoint
+    ensures { λ r. ⌜ pointTally r ≡ closestBy counting double limit v1 v2 p eps ⌝ }
 {
-    if v1.bulge_is_zero() {
+    if v1.bulge_is_zero(limit) {
         return RootedPoint {
             point: line_seg_closest_point(v1.pos(), v2.pos(), p),
             roots: 0,
@@ -104,10 +110,10 @@ pub fn closest_point(v1: PlineVertex, v2: PlineVertex, p: Vector2, eps: f64) -> 
 }
 
 // The point alone. A line's does not go through a counted one: that goes through memory, and would take it twice as long.
-fn closest(v1: PlineVertex, v2: PlineVertex, p: Vector2, eps: f64) -> Vector2
-    ensures { λ r. ⌜ r ≡ closestOf double (double .line) v1 v2 p eps ⌝ }
+fn closest(v1: PlineVertex, v2: PlineVertex, p: Vector2, eps: f64, limit: f64) -> Vector2
+    ensures { λ r. ⌜ r ≡ closestOf double limit v1 v2 p eps ⌝ }
 {
-    if v1.bulge_is_zero() {
+    if v1.bulge_is_zero(limit) {
         return line_seg_closest_point(v1.pos(), v2.pos(), p);
     }
     let closest = arc_closest(v1, v2, arc_center(v1, v2), p, eps);
@@ -115,8 +121,14 @@ fn closest(v1: PlineVertex, v2: PlineVertex, p: Vector2, eps: f64) -> Vector2
     point
 }
 
-pub fn seg_closest_point(v1: PlineVertex, v2: PlineVertex, p: Vector2, eps: f64) -> PointAnswer
-    ensures { λ r. ⌜ pointReply r ≡ segClosest double (double .line) v1 v2 p eps ⌝ }
+pub fn seg_closest_point(
+    v1: PlineVertex,
+    v2: PlineVertex,
+    p: Vector2,
+    eps: f64,
+    limit: f64,
+) -> PointAnswer
+    ensures { λ r. ⌜ pointReply r ≡ segClosest double limit v1 v2 p eps ⌝ }
 {
     if !seg_in_range(v1, v2) {
         return PointAnswer::Refused(BAD_NUMBER);
@@ -124,8 +136,8 @@ pub fn seg_closest_point(v1: PlineVertex, v2: PlineVertex, p: Vector2, eps: f64)
     if !point_in_range(p) {
         return PointAnswer::Refused(BAD_NUMBER);
     }
-    if !tol_in_range(eps) {
+    if !tol_and_limit_in_range(eps, limit) {
         return PointAnswer::Refused(BAD_TOLERANCE);
     }
-    PointAnswer::Given(closest(v1, v2, p, eps))
+    PointAnswer::Given(closest(v1, v2, p, eps, limit))
 }

@@ -10,7 +10,7 @@ use plane::coord_in_range;
 use plane::dist_squared;
 use plane::point_in_range;
 use plane::seg_in_range;
-use plane::tol_in_range;
+use plane::tol_and_limit_in_range;
 use real::BAD_NUMBER;
 use real::BAD_TOLERANCE;
 use real::magnitude;
@@ -79,10 +79,10 @@ fn arc_far(v1: PlineVertex, v2: PlineVertex, center: Vector2, p: Vector2, d: f64
 }
 
 // d is the distance's magnitude.
-fn far(v1: PlineVertex, v2: PlineVertex, p: Vector2, d: f64, eps: f64) -> bool
-    ensures { λ r. ⌜ r ≡ farOf double (double .line) v1 v2 p d eps ⌝ }
+fn far(v1: PlineVertex, v2: PlineVertex, p: Vector2, d: f64, eps: f64, limit: f64) -> bool
+    ensures { λ r. ⌜ r ≡ farOf double limit v1 v2 p d eps ⌝ }
 {
-    if v1.bulge_is_zero() {
+    if v1.bulge_is_zero(limit) {
         return line_far(v1.pos(), v2.pos(), p, d * d);
     }
     arc_far(v1, v2, arc_center(v1, v2), p, d, eps)
@@ -94,8 +94,9 @@ pub fn seg_distance_is_greater_than(
     p: Vector2,
     distance: f64,
     eps: f64,
+    limit: f64,
 ) -> BoolAnswer
-    ensures { λ r. ⌜ boolReply r ≡ segFar double (double .line) v1 v2 p distance eps ⌝ }
+    ensures { λ r. ⌜ boolReply r ≡ segFar double limit v1 v2 p distance eps ⌝ }
 {
     if !seg_in_range(v1, v2) {
         return BoolAnswer::Refused(BAD_NUMBER);
@@ -106,8 +107,8 @@ pub fn seg_distance_is_greater_than(
     if !coord_in_range(distance) {
         return BoolAnswer::Refused(BAD_NUMBER);
     }
-    if !tol_in_range(eps) {
+    if !tol_and_limit_in_range(eps, limit) {
         return BoolAnswer::Refused(BAD_TOLERANCE);
     }
-    BoolAnswer::Given(far(v1, v2, p, magnitude(distance), eps))
+    BoolAnswer::Given(far(v1, v2, p, magnitude(distance), eps, limit))
 }

@@ -2,9 +2,11 @@
 use crate::answer::PointAnswer;
 use plane::PlineVertex;
 use plane::Vector2;
+use plane::limit_in_range;
 use plane::midpoint;
 use plane::seg_in_range;
 use real::BAD_NUMBER;
+use real::BAD_TOLERANCE;
 ghost use mathlib.Core.Path.{_≡_};
 ghost use Rattle.plane.specs.Grade.{double};
 ghost use Rattle.plane.specs.Math.{midpointOf};
@@ -29,20 +31,23 @@ fn arc_middle(v1: PlineVertex, v2: PlineVertex) -> Vector2
     }
 }
 
-fn middle(v1: PlineVertex, v2: PlineVertex) -> Vector2
-    ensures { λ r. ⌜ r ≡ midOf double (double .line) v1 v2 ⌝ }
+fn middle(v1: PlineVertex, v2: PlineVertex, limit: f64) -> Vector2
+    ensures { λ r. ⌜ r ≡ midOf double limit v1 v2 ⌝ }
 {
-    if v1.bulge_is_zero() {
+    if v1.bulge_is_zero(limit) {
         return chord_midpoint(v1, v2);
     }
     arc_middle(v1, v2)
 }
 
-pub fn seg_midpoint(v1: PlineVertex, v2: PlineVertex) -> PointAnswer
-    ensures { λ r. ⌜ pointReply r ≡ segMid double (double .line) v1 v2 ⌝ }
+pub fn seg_midpoint(v1: PlineVertex, v2: PlineVertex, limit: f64) -> PointAnswer
+    ensures { λ r. ⌜ pointReply r ≡ segMid double limit v1 v2 ⌝ }
 {
     if !seg_in_range(v1, v2) {
         return PointAnswer::Refused(BAD_NUMBER);
     }
-    PointAnswer::Given(middle(v1, v2))
+    if !limit_in_range(limit) {
+        return PointAnswer::Refused(BAD_TOLERANCE);
+    }
+    PointAnswer::Given(middle(v1, v2, limit))
 }

@@ -5,7 +5,7 @@ use plane::PlineVertex;
 use plane::Vector2;
 use plane::point_in_range;
 use plane::seg_in_range;
-use plane::tol_in_range;
+use plane::tol_and_limit_in_range;
 use real::BAD_NUMBER;
 use real::BAD_TOLERANCE;
 use real::magnitude;
@@ -134,11 +134,17 @@ fn split_arc(v1: PlineVertex, v2: PlineVertex, p: Vector2) -> SplitResult
     split_chords(v1, p, whole, chord1, chord2)
 }
 
-// The split, for any numbers and any tolerance.
-pub fn split_at_point(v1: PlineVertex, v2: PlineVertex, p: Vector2, eps: f64) -> SplitResult
-    ensures { λ r. ⌜ r ≡ splitOf double (double .line) v1 v2 p eps ⌝ }
+// The split, for any numbers, any tolerance and any limit.
+pub fn split_at_point(
+    v1: PlineVertex,
+    v2: PlineVertex,
+    p: Vector2,
+    eps: f64,
+    limit: f64,
+) -> SplitResult
+    ensures { λ r. ⌜ r ≡ splitOf double limit v1 v2 p eps ⌝ }
 {
-    if v1.bulge_is_zero() {
+    if v1.bulge_is_zero(limit) {
         return split_at(v1, v1.bulge, p, 0.0);
     }
     if ends_meet(v1, v2, eps) {
@@ -153,8 +159,14 @@ pub fn split_at_point(v1: PlineVertex, v2: PlineVertex, p: Vector2, eps: f64) ->
     split_arc(v1, v2, p)
 }
 
-pub fn seg_split_at_point(v1: PlineVertex, v2: PlineVertex, p: Vector2, eps: f64) -> SplitAnswer
-    ensures { λ r. ⌜ splitReply r ≡ segSplit double (double .line) v1 v2 p eps ⌝ }
+pub fn seg_split_at_point(
+    v1: PlineVertex,
+    v2: PlineVertex,
+    p: Vector2,
+    eps: f64,
+    limit: f64,
+) -> SplitAnswer
+    ensures { λ r. ⌜ splitReply r ≡ segSplit double limit v1 v2 p eps ⌝ }
 {
     if !seg_in_range(v1, v2) {
         return SplitAnswer::Refused(BAD_NUMBER);
@@ -162,8 +174,8 @@ pub fn seg_split_at_point(v1: PlineVertex, v2: PlineVertex, p: Vector2, eps: f64
     if !point_in_range(p) {
         return SplitAnswer::Refused(BAD_NUMBER);
     }
-    if !tol_in_range(eps) {
+    if !tol_and_limit_in_range(eps, limit) {
         return SplitAnswer::Refused(BAD_TOLERANCE);
     }
-    SplitAnswer::Given(split_at_point(v1, v2, p, eps))
+    SplitAnswer::Given(split_at_point(v1, v2, p, eps, limit))
 }

@@ -3,9 +3,11 @@ use crate::answer::PointAnswer;
 use crate::arc::chord;
 use plane::PlineVertex;
 use plane::Vector2;
+use plane::limit_in_range;
 use plane::point_in_range;
 use plane::seg_in_range;
 use real::BAD_NUMBER;
+use real::BAD_TOLERANCE;
 use real::magnitude;
 ghost use mathlib.Core.Path.{_≡_};
 ghost use Rattle.plane.specs.Grade.{double};
@@ -23,17 +25,17 @@ fn arc_tangent(v1: PlineVertex, v2: PlineVertex, p: Vector2) -> Vector2
     numerator.scale(1.0 / (4.0 * magnitude(bulge)))
 }
 
-fn tangent(v1: PlineVertex, v2: PlineVertex, p: Vector2) -> Vector2
-    ensures { λ r. ⌜ r ≡ tangentOf double (double .line) v1 v2 p ⌝ }
+fn tangent(v1: PlineVertex, v2: PlineVertex, p: Vector2, limit: f64) -> Vector2
+    ensures { λ r. ⌜ r ≡ tangentOf double limit v1 v2 p ⌝ }
 {
-    if v1.bulge_is_zero() {
+    if v1.bulge_is_zero(limit) {
         return chord(v1, v2);
     }
     arc_tangent(v1, v2, p)
 }
 
-pub fn seg_tangent_vector(v1: PlineVertex, v2: PlineVertex, p: Vector2) -> PointAnswer
-    ensures { λ r. ⌜ pointReply r ≡ segTangent double (double .line) v1 v2 p ⌝ }
+pub fn seg_tangent_vector(v1: PlineVertex, v2: PlineVertex, p: Vector2, limit: f64) -> PointAnswer
+    ensures { λ r. ⌜ pointReply r ≡ segTangent double limit v1 v2 p ⌝ }
 {
     if !seg_in_range(v1, v2) {
         return PointAnswer::Refused(BAD_NUMBER);
@@ -41,5 +43,8 @@ pub fn seg_tangent_vector(v1: PlineVertex, v2: PlineVertex, p: Vector2) -> Point
     if !point_in_range(p) {
         return PointAnswer::Refused(BAD_NUMBER);
     }
-    PointAnswer::Given(tangent(v1, v2, p))
+    if !limit_in_range(limit) {
+        return PointAnswer::Refused(BAD_TOLERANCE);
+    }
+    PointAnswer::Given(tangent(v1, v2, p, limit))
 }

@@ -8,14 +8,14 @@ use lib.Dec.{ltb}
 use lib.ListN.{length}
 use lib.Ieee.{Float}
 use borrow.Author.Tests.{lt-ltb, le-ltb, ltb-true, ltb-false, le-leb, leb-false, lt-leb, not-false}
-use Rattle.real.specs.Refusal.{badNumber, badOutline, badIndex}
+use Rattle.real.specs.Refusal.{badNumber, badTolerance, badOutline, badIndex}
 use Rattle.real.specs.Reply.{Reply, given, check}
 use Rattle.real.specs.Tally.{plain}
 use Rattle.real.proofs.Replies.{and-both}
 use Rattle.plane.specs.Grade.{Grade}
 use Rattle.plane.specs.Vec.{vnearOf}
 use Rattle.plane.specs.Vertex.{posOf}
-use Rattle.plane.specs.Range.{wholeOutline}
+use Rattle.plane.specs.Range.{wholeOutline, limitOk}
 use Rattle.lists.specs.View.{wrapped}
 use Rattle.view.specs.Outline.{vertexOf, countOf, numbersOk, viewable}
 use Rattle.view.specs.Record.{recordOk, needed, vertices}
@@ -68,7 +68,8 @@ module _ (closed : Bool) (g : Grade) (limit : Float) (s : List Float) (d : Pline
       let a = past-check (wholeOutline (length s)) badOutline _ e in
       let b = past-check (numbersOk g s && recordOk g d) badNumber _ (a .1) in
       let n = and-both (numbersOk g s) (recordOk g d) (b .0) in
-      let two = past-given (ltb (countOf s) 2) noSegments _ refl (b .1) in
+      let l = past-check (limitOk g limit) badTolerance _ (b .1) in
+      let two = past-given (ltb (countOf s) 2) noSegments _ refl (l .1) in
       let off = past-given (ltb (countOf s) (d .«end_index_offset»)) (offsetOut (d .«end_index_offset») (countOf s)) _ refl (two .1) in
       let st = past-check (ltb (d .«start_index») (countOf s)) badIndex _ (off .1) in
       let given-cut : markOf closed s d (placedBy plain g limit s d) ≡ cut = cc (st .1) in
@@ -80,6 +81,7 @@ module _ (closed : Bool) (g : Grade) (limit : Float) (s : List Float) (d : Pline
         whole = a .0;
         outline = n .0;
         numbers = n .1;
+        limited = l .0;
         two = ltb-false _ _ (two .0);
         offset = ltb-false _ _ (off .0);
         start = ltb-true _ _ (st .0);
@@ -93,7 +95,7 @@ module _ (closed : Bool) (g : Grade) (limit : Float) (s : List Float) (d : Pline
   pub cut-when : Cut closed g limit s d → markAnswer closed s d (validateOf g limit s d) ≡ given cut
   unfolding validateBy countsBy placedBy endVerdict markOf
   cut-when c =
-      simp (c .whole, c .outline, c .numbers, le-ltb (countOf s) 2 (c .two), le-ltb (countOf s) (d .«end_index_offset») (c .offset), lt-ltb (d .«start_index») (countOf s) (c .start), c .on-start, c .on-end, c .apart, c .bulges, not-across s d closed (c .gap))
+      simp (c .whole, c .outline, c .numbers, c .limited, le-ltb (countOf s) 2 (c .two), le-ltb (countOf s) (d .«end_index_offset») (c .offset), lt-ltb (d .«start_index») (countOf s) (c .start), c .on-start, c .on-end, c .apart, c .bulges, not-across s d closed (c .gap))
 
   -- a cut view passes the checks of the other view calls
   pub cut-clear : Cut closed g limit s d → Checked g s d

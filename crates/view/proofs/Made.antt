@@ -15,7 +15,7 @@ use Rattle.real.proofs.Replies.{same-given, check-passed, and-both}
 use Rattle.plane.specs.Grade.{Grade, double}
 use Rattle.plane.specs.Vec.{vnearOf}
 use Rattle.plane.specs.Vertex.{vertexAt, posOf}
-use Rattle.plane.specs.Range.{wholeOutline, tolOk, coordOk, bulgeOk, pointOk, vertexOk, segOk}
+use Rattle.plane.specs.Range.{wholeOutline, tolOk, limitOk, coordOk, bulgeOk, pointOk, vertexOk, segOk}
 use Rattle.plane.specs.declared.vector2.Vector2.{Vector2}
 use Rattle.plane.specs.declared.pline_vertex.PlineVertex.{PlineVertex}
 use Rattle.seg.specs.Cases.{half, minusHalf, vec}
@@ -128,7 +128,7 @@ module _ (g : Grade) (sound : Sound g) (limit : Float) (s : List Float) (p : Vec
       let c = check-passed badOffset _ (t .1) in
       let i = check-passed badIndex _ (c .1) in
       let b = and-both (ltb start (countOf s)) _ (i .0) in
-      let a : Asked g s p eps = record { outline = o .0; numbers = n₁ .0; point = n₂ .0; tolerance = t .0 } in
+      let a : Asked g s p eps = record { outline = o .0; numbers = n₁ .0; point = n₂ .0; tolerance = and-both (tolOk g eps) _ (t .0) .0 } in
       ended-fresh g s p eps a start first _ d (ltb-true _ _ (b .0)) (n₂ .1)
       (ends g s p eps a sound limit at (first .bulge) traverse (ltb-true _ _ (b .1)) (bulge-in g first (n₂ .1)) (ltb-true _ _ (c .0))) (i .1)
 
@@ -142,30 +142,30 @@ module _ (g : Grade) (sound : Sound g) (limit : Float) (s : List Float) (p : Vec
       let c = check-passed {b = closed} notClosed _ (t .1) in
       let k = movedOn g s p start eps in
       let i = check-passed badIndex (given (roundFrom g limit s p k eps)) (c .1) in
-      let a : Asked g s p eps = record { outline = o .0; numbers = n₁ .0; point = n₁ .1; tolerance = t .0 } in
+      let a : Asked g s p eps = record { outline = o .0; numbers = n₁ .0; point = n₁ .1; tolerance = and-both (tolOk g eps) _ (t .0) .0 } in
       let same : roundFrom g limit s p k eps ≡ d = same-given (sym (i .1)) in
       subst (Fresh g s) same (round-fresh g s p eps a sound limit k (moved-in g s p eps a start (ltb-true _ _ (i .0))))
 
 made-fresh : (g : Grade) (s : List Float) (d : PlineViewData) → Fresh g s d → Made g s d
 made-fresh g s d w = record { demand3 = fine-demand3 g s d (w .fine); number = w .number }
 
-pub made-demand3 : (g : Grade) → Sound g → (limit : Float) → MadeDemand3 g limit
-made-demand3 g sound limit =
+pub made-demand3 : (g : Grade) → Sound g → MadeDemand3 g
+made-demand3 g sound =
     record {
-      created = λ s start p at first traverse eps d q. made-fresh g s d (create-fresh g sound limit s p eps d start at first traverse q);
-      started = λ s closed p start eps d q. made-fresh g s d (new-start-fresh g sound limit s p eps d closed start q);
+      created = λ limit s start p at first traverse eps d q. made-fresh g s d (create-fresh g sound limit s p eps d start at first traverse q);
+      started = λ limit s closed p start eps d q. made-fresh g s d (new-start-fresh g sound limit s p eps d closed start q);
     }
 
 -- at f64
-pub made-demand3-f64 : MadeDemand3 double (double .line)
-made-demand3-f64 = made-demand3 double double-sound (double .line)
+pub made-demand3-f64 : MadeDemand3 double
+made-demand3-f64 = made-demand3 double double-sound
 
 -- offset 0 on Q, from vertex 1 to the next one: the last bulge is the start's, not that of the vertex before the end
 pub arc-made : createOf double (double .line) Q 1 (vec four four) 2 (vertexAt four zero half) 1 (double .fuzz) ≡ given arc
-unfolding Q arc createOf endingOf endOnTop endedAt viewable wholeOutline all numbersOk coordOk bulgeOk pointOk vertexOk tolOk absOf add sub mul le lt eq ofBits ofFields odd
+unfolding Q arc createOf endingOf endOnTop endedAt viewable wholeOutline all numbersOk coordOk bulgeOk pointOk vertexOk tolOk limitOk absOf add sub mul le lt eq ofBits ofFields odd
 arc-made = refl
 
 -- and turned round it lists the arc from its end
 pub arc-turned : Lists double Q (row double Q (turn ∷ []) arc) (vert four four minusHalf ∷ vert four zero zero ∷ [])
 unfolding Q arc rowList stepList turnList turnAt viewList positionAt forward tab neg ofBits
-arc-turned = made-demand3-f64 .created Q 1 (vec four four) 2 _ 1 (double .fuzz) arc arc-made .demand3 .rows (turn ∷ []) .lists
+arc-turned = made-demand3-f64 .created (double .line) Q 1 (vec four four) 2 _ 1 (double .fuzz) arc arc-made .demand3 .rows (turn ∷ []) .lists

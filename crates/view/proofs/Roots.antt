@@ -11,7 +11,7 @@ use lib.Ieee.{Float}
 use Rattle.real.specs.Reply.{Reply, refused, given}
 use Rattle.real.specs.Tally.{Tally, tally, plain, counting}
 use Rattle.plane.specs.Grade.{Grade}
-use Rattle.plane.specs.Range.{wholeOutline}
+use Rattle.plane.specs.Range.{wholeOutline, limitOk}
 use Rattle.plane.specs.Vec.{vnearOf}
 use Rattle.plane.specs.Vertex.{posOf, lineOf}
 use Rattle.plane.specs.declared.vector2.Vector2.{Vector2}
@@ -95,7 +95,7 @@ module _ (g : Grade) (limit : Float) where
   module _ (v1 v2 : PlineVertex) (p : Vector2) where
     test-value : onSegmentBy counting g limit v1 v2 p .value ≡ onSegmentBy plain g limit v1 v2 p
     unfolding onSegmentBy nearClosestBy
-    test-value = chosen-value (nearEnd g v1 v2 p) _ _ ∙ simp (closest-value g limit v1 v2 p (g .onVertex))
+    test-value = chosen-value (nearEnd g v1 v2 p) _ _ ∙ simp (closest-value g v1 v2 p (g .onVertex) limit)
 
     test-exactly : onSegmentBy counting g limit v1 v2 p .roots ≡
         cond (nearEnd g v1 v2 p) 0
@@ -184,9 +184,10 @@ module _ (g : Grade) (limit : Float) where
     all-take =
         given-chosen (Takes start-roots end-roots) (not (wholeOutline (length s))) _ _ tt
         (given-chosen (Takes start-roots end-roots) (not (numbersOk g s && recordOk g d)) _ _ tt
+        (given-chosen (Takes start-roots end-roots) (not (limitOk g limit)) _ _ tt
         (given-chosen (Takes start-roots end-roots) (ltb (countOf s) 2) _ _ refl
         (given-chosen (Takes start-roots end-roots) (ltb (countOf s) (d .«end_index_offset»)) _ _ refl
-        (given-chosen (Takes start-roots end-roots) (not (ltb (d .«start_index») (countOf s))) _ _ tt placed-takes))))
+        (given-chosen (Takes start-roots end-roots) (not (ltb (d .«start_index») (countOf s))) _ _ tt placed-takes)))))
 
     takes : (t : Tally Verdict) → validateCounted g limit s d ≡ given t → Takes start-roots end-roots t
     takes t e = subst (IfGiven (Takes start-roots end-roots)) e all-take

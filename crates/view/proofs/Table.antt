@@ -5,7 +5,7 @@ use native.Mathlib.Omega.{arith}
 use lib.Ieee.{Float, neg, add, sub, mul, div, ofBits, ofFields, odd, le, lt, eq}
 use Rattle.real.specs.Root.{absOf}
 use Rattle.plane.specs.Grade.{double}
-use Rattle.plane.specs.Range.{wholeOutline, coordOk, bulgeOk, pointOk, vertexOk}
+use Rattle.plane.specs.Range.{wholeOutline, coordOk, bulgeOk, limitOk, pointOk, vertexOk}
 use Rattle.seg.specs.Closest.{arcClosestBy, closestBy}
 use Rattle.seg.proofs.Table.{segment-table}
 use Rattle.view.specs.Segment.{nearClosestBy, onSegmentBy, onOutlineBy}
@@ -35,7 +35,7 @@ lists : (ts : List Step) (l : List (Vert Float)) → rowList neg (double .zero) 
 lists ts l e = subst (Lists double Q (row double Q ts R)) e (demand3 double Q R unrefused even .rows ts .lists)
 
 pub table : Table
-unfolding Q like-R row rowList stepList turnList turnAt trimList trimAt viewList vertexAt forward tab neg add sub mul div lt le eq ofBits ofFields odd absOf coordOk bulgeOk pointOk vertexOk viewable wholeOutline all numbersOk recordOk validateBy countsBy placedBy endVerdict bulgesMatch onOutlineBy onSegmentBy nearClosestBy closestBy arcClosestBy
+unfolding Q like-R row rowList stepList turnList turnAt trimList trimAt viewList vertexAt forward tab neg add sub mul div lt le eq ofBits ofFields odd absOf coordOk bulgeOk limitOk pointOk vertexOk viewable wholeOutline all numbersOk recordOk validateBy countsBy placedBy endVerdict bulgesMatch onOutlineBy onSegmentBy nearClosestBy closestBy arcClosestBy
 table =
     record {
       segments = segment-table;

@@ -9,7 +9,7 @@ use Rattle.real.specs.Reply.{Reply, given, check}
 use Rattle.plane.specs.Grade.{Grade}
 use Rattle.plane.specs.Vec.{vnearOf}
 use Rattle.plane.specs.Vertex.{posOf}
-use Rattle.plane.specs.Range.{tolOk, pointOk, vertexOk}
+use Rattle.plane.specs.Range.{tolOk, limitOk, pointOk, vertexOk}
 use Rattle.plane.specs.declared.vector2.Vector2.{Vector2}
 use Rattle.plane.specs.declared.pline_vertex.PlineVertex.{PlineVertex}
 use Rattle.seg.specs.declared.split.SplitResult.{SplitResult}
@@ -77,7 +77,7 @@ module _ (g : Grade) where
     createOf start p at first traverse eps =
         check (viewable s) badOutline
         (check (numbersOk g s && (pointOk g p && vertexOk g first)) badNumber
-        (check (tolOk g eps) badTolerance
+        (check (tolOk g eps && limitOk g limit) badTolerance
         (check (ltb 0 traverse) badOffset
         (check (ltb start (countOf s) && ltb at (countOf s)) badIndex
         (endedAt s start p first (endingOf p at (first .bulge) traverse eps))))))
@@ -95,7 +95,7 @@ module _ (g : Grade) where
     newStartOf closed p start eps =
         check (viewable s) badOutline
         (check (numbersOk g s && pointOk g p) badNumber
-        (check (tolOk g eps) badTolerance
+        (check (tolOk g eps && limitOk g limit) badTolerance
         (check closed notClosed
         (check (ltb start (countOf s)) badIndex
         (given (roundFrom p (movedOn s p start eps) eps))))))

@@ -8,7 +8,7 @@ use lib.Ieee.{Float}
 use Rattle.plane.specs.Grade.{Grade}
 use Rattle.plane.specs.Vec.{vnearOf}
 use Rattle.plane.specs.Vertex.{posOf}
-use Rattle.plane.specs.Range.{wholeOutline}
+use Rattle.plane.specs.Range.{wholeOutline, limitOk}
 use Rattle.lists.specs.View.{wrapped}
 use Rattle.view.specs.Outline.{vertexOf, countOf, numbersOk}
 use Rattle.view.specs.Record.{recordOk}
@@ -17,10 +17,11 @@ use Rattle.view.specs.Validation.{bulgesMatch}
 use Rattle.view.specs.declared.view_data.PlineViewData.{PlineViewData}
 
 pub record Cut (closed : Bool) (g : Grade) (limit : Float) (s : List Float) (d : PlineViewData) : Type 0 where
-  -- the outline is whole vertices, and every number is in range
+  -- the outline is whole vertices, and every number and the limit are in range
   pub whole : wholeOutline (length s) ≡ true
   pub outline : numbersOk g s ≡ true
   pub numbers : recordOk g d ≡ true
+  pub limited : limitOk g limit ≡ true
   -- it has a segment, and start and offset lie in it
   pub two : 2 ≤ countOf s
   pub offset : d .«end_index_offset» ≤ countOf s

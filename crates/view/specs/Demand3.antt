@@ -68,9 +68,9 @@ pub record Made (g : Grade) (s : List Float) (d : PlineViewData) : Type 0 where
   -- "`create` and `from_new_start` give 0"
   pub number : d .«cut_number» ≡ 0
 
--- What `create` and `from_new_start` answer has demand 3, whatever they are asked: it lists without refusal, and where its offset is 0 its two bulges are equal.
-pub record MadeDemand3 (g : Grade) (limit : Float) : Type 0 where
-  pub created : (s : List Float) (start : ℕ) (p : Vector2) (at : ℕ) (first : PlineVertex) (traverse : ℕ) (eps : Float) (d : PlineViewData)
+-- What `create` and `from_new_start` answer has demand 3, whatever they are asked and at whatever limit: it lists without refusal, and where its offset is 0 its two bulges are equal.
+pub record MadeDemand3 (g : Grade) : Type 0 where
+  pub created : (limit : Float) (s : List Float) (start : ℕ) (p : Vector2) (at : ℕ) (first : PlineVertex) (traverse : ℕ) (eps : Float) (d : PlineViewData)
       → createOf g limit s start p at first traverse eps ≡ given d → Made g s d
-  pub started : (s : List Float) (closed : Bool) (p : Vector2) (start : ℕ) (eps : Float) (d : PlineViewData)
+  pub started : (limit : Float) (s : List Float) (closed : Bool) (p : Vector2) (start : ℕ) (eps : Float) (d : PlineViewData)
       → newStartOf g limit s closed p start eps ≡ given d → Made g s d

@@ -5,13 +5,13 @@ use Prim.Native.Nat.{ℕ, _+_, _-_}
 use lib.Dec.{ltb, leb, eqb}
 use lib.ListN.{length}
 use lib.Ieee.{Float}
-use Rattle.real.specs.Refusal.{badNumber, badOutline, badIndex}
+use Rattle.real.specs.Refusal.{badNumber, badTolerance, badOutline, badIndex}
 use Rattle.real.specs.Reply.{Reply, refused, given, check}
 use Rattle.real.specs.Tally.{Way, Tally, tally, plain, counting}
 use Rattle.plane.specs.Grade.{Grade}
 use Rattle.plane.specs.Vec.{nearOf, vnearOf}
 use Rattle.plane.specs.Vertex.{posOf}
-use Rattle.plane.specs.Range.{wholeOutline}
+use Rattle.plane.specs.Range.{wholeOutline, limitOk}
 use Rattle.plane.specs.declared.vector2.Vector2.{Vector2}
 use Rattle.plane.specs.declared.pline_vertex.PlineVertex.{PlineVertex}
 use Rattle.lists.specs.View.{wrapped}
@@ -114,12 +114,13 @@ module _ (w : Way) (g : Grade) (limit : Float) where
       (check (ltb (d .«start_index») (countOf s)) badIndex
       (given (placedBy s d))))
 
-  -- 3 (but "under two vertices, for any view call but validation"), then 1
+  -- 3 (but "under two vertices, for any view call but validation"), then 1, then "2 for a limit out of range"
   unfoldable pub validateBy : List Float → PlineViewData → Reply (Step Verdict)
   validateBy s d =
       check (wholeOutline (length s)) badOutline
       (check (numbersOk g s && recordOk g d) badNumber
-      (countsBy s d))
+      (check (limitOk g limit) badTolerance
+      (countsBy s d)))
 
 module _ (g : Grade) (limit : Float) where
   -- the verdict alone

@@ -12,7 +12,7 @@ use crate::view_data::ViewAnswer;
 use plane::PlineVertex;
 use plane::Vector2;
 use plane::point_in_range;
-use plane::tol_in_range;
+use plane::tol_and_limit_in_range;
 use plane::vertex_in_range;
 use real::BAD_INDEX;
 use real::BAD_NUMBER;
@@ -46,11 +46,18 @@ fn end_on_top(source: &[f64], at: usize, b: f64, traverse: usize) -> Ending
 }
 
 // The end on segment `at`, whose bulge is trimmed to the point.
-fn end_on_segment(source: &[f64], at: usize, p: Vector2, traverse: usize, eps: f64) -> Ending
+fn end_on_segment(
+    source: &[f64],
+    at: usize,
+    p: Vector2,
+    traverse: usize,
+    eps: f64,
+    limit: f64,
+) -> Ending
     requires { ⌜ Index (now source) at ⌝ }
-    ensures { λ r. ⌜ r ≡ endOnSegment double (double .line) (now (source .entry)) at p traverse eps ⌝ }
+    ensures { λ r. ⌜ r ≡ endOnSegment double limit (now (source .entry)) at p traverse eps ⌝ }
 {
-    let split = split_segment(source, at, p, eps);
+    let split = split_segment(source, at, p, eps, limit);
     let start = split.updated_start;
     Ending {
         offset: traverse,
@@ -59,15 +66,23 @@ fn end_on_segment(source: &[f64], at: usize, p: Vector2, traverse: usize, eps: f
 }
 
 // How the view ends, at a point on segment `at`.
-fn find_end(source: &[f64], p: Vector2, at: usize, b: f64, traverse: usize, eps: f64) -> Ending
+fn find_end(
+    source: &[f64],
+    p: Vector2,
+    at: usize,
+    b: f64,
+    traverse: usize,
+    eps: f64,
+    limit: f64,
+) -> Ending
     requires { ⌜ Ends (now source) at traverse ⌝ }
-    ensures { λ r. ⌜ r ≡ endingOf double (double .line) (now (source .entry)) p at b traverse eps ⌝ }
+    ensures { λ r. ⌜ r ≡ endingOf double limit (now (source .entry)) p at b traverse eps ⌝ }
 {
     let v = vertex_at(source, at);
     if p.fuzzy_eq_eps(v.pos(), eps) {
         return end_on_top(source, at, b, traverse);
     }
-    end_on_segment(source, at, p, traverse, eps)
+    end_on_segment(source, at, p, traverse, eps, limit)
 }
 
 // The record, unless its offset is above the vertex count.
@@ -97,8 +112,9 @@ impl PlineViewData {
         first: PlineVertex,
         traverse: usize,
         eps: f64,
+        limit: f64,
     ) -> ViewAnswer
-        ensures { λ r. ⌜ viewReply r ≡ createOf double (double .line) (now (source .entry)) start p at first traverse eps ⌝ }
+        ensures { λ r. ⌜ viewReply r ≡ createOf double limit (now (source .entry)) start p at first traverse eps ⌝ }
     {
         if !serves_views(source) {
             return ViewAnswer::Refused(BAD_OUTLINE);
@@ -106,7 +122,7 @@ impl PlineViewData {
         if !all_in_range(source, p, first) {
             return ViewAnswer::Refused(BAD_NUMBER);
         }
-        if !tol_in_range(eps) {
+        if !tol_and_limit_in_range(eps, limit) {
             return ViewAnswer::Refused(BAD_TOLERANCE);
         }
         if traverse == 0 {
@@ -116,7 +132,7 @@ impl PlineViewData {
         if !both_less(start, count, at, count) {
             return ViewAnswer::Refused(BAD_INDEX);
         }
-        let e = find_end(source, p, at, first.bulge, traverse, eps);
+        let e = find_end(source, p, at, first.bulge, traverse, eps, limit);
         ended_at(source, start, p, first, e)
     }
 }

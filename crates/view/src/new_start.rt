@@ -11,7 +11,7 @@ use crate::view_data::PlineViewData;
 use crate::view_data::ViewAnswer;
 use plane::Vector2;
 use plane::point_in_range;
-use plane::tol_in_range;
+use plane::tol_and_limit_in_range;
 use real::BAD_INDEX;
 use real::BAD_NUMBER;
 use real::BAD_OUTLINE;
@@ -64,11 +64,11 @@ fn round_ending(source: &[f64], p: Vector2, k: usize, eps: f64, split: SplitResu
 }
 
 // The whole outline, from a point on segment k.
-fn round_from(source: &[f64], p: Vector2, k: usize, eps: f64) -> PlineViewData
+fn round_from(source: &[f64], p: Vector2, k: usize, eps: f64, limit: f64) -> PlineViewData
     requires { ⌜ Index (now source) k ⌝ }
-    ensures { λ r. ⌜ r ≡ roundFrom double (double .line) (now (source .entry)) p k eps ⌝ }
+    ensures { λ r. ⌜ r ≡ roundFrom double limit (now (source .entry)) p k eps ⌝ }
 {
-    let split = split_segment(source, k, p, eps);
+    let split = split_segment(source, k, p, eps, limit);
     let e = round_ending(source, p, k, eps, split);
     forward_data(k, split.split_vertex, p, e)
 }
@@ -87,8 +87,9 @@ impl PlineViewData {
         p: Vector2,
         start: usize,
         eps: f64,
+        limit: f64,
     ) -> ViewAnswer
-        ensures { λ r. ⌜ viewReply r ≡ newStartOf double (double .line) (now (source .entry)) closed p start eps ⌝ }
+        ensures { λ r. ⌜ viewReply r ≡ newStartOf double limit (now (source .entry)) closed p start eps ⌝ }
     {
         if !serves_views(source) {
             return ViewAnswer::Refused(BAD_OUTLINE);
@@ -96,7 +97,7 @@ impl PlineViewData {
         if !outline_and_point_in_range(source, p) {
             return ViewAnswer::Refused(BAD_NUMBER);
         }
-        if !tol_in_range(eps) {
+        if !tol_and_limit_in_range(eps, limit) {
             return ViewAnswer::Refused(BAD_TOLERANCE);
         }
         if !closed {
@@ -106,6 +107,6 @@ impl PlineViewData {
             return ViewAnswer::Refused(BAD_INDEX);
         }
         let k = move_on(source, p, start, eps);
-        ViewAnswer::Given(round_from(source, p, k, eps))
+        ViewAnswer::Given(round_from(source, p, k, eps, limit))
     }
 }

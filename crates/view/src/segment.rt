@@ -30,10 +30,10 @@ fn near_an_end(v1: PlineVertex, v2: PlineVertex, p: Vector2) -> bool
     p.fuzzy_eq_eps(v1.pos(), ON_SEGMENT) || p.fuzzy_eq_eps(v2.pos(), ON_SEGMENT)
 }
 
-fn near_closest_point(v1: PlineVertex, v2: PlineVertex, p: Vector2) -> RootedTest
-    ensures { λ r. ⌜ testTally r ≡ nearClosestBy counting double (double .line) v1 v2 p ⌝ }
+fn near_closest_point(v1: PlineVertex, v2: PlineVertex, p: Vector2, limit: f64) -> RootedTest
+    ensures { λ r. ⌜ testTally r ≡ nearClosestBy counting double limit v1 v2 p ⌝ }
 {
-    let closest = closest_point(v1, v2, p, ON_VERTEX);
+    let closest = closest_point(v1, v2, p, ON_VERTEX, limit);
     let point = closest.point;
     RootedTest {
         on: point.fuzzy_eq_eps(p, ON_SEGMENT),
@@ -41,29 +41,29 @@ fn near_closest_point(v1: PlineVertex, v2: PlineVertex, p: Vector2) -> RootedTes
     }
 }
 
-fn is_on_segment(v1: PlineVertex, v2: PlineVertex, p: Vector2) -> RootedTest
-    ensures { λ r. ⌜ testTally r ≡ onSegmentBy counting double (double .line) v1 v2 p ⌝ }
+fn is_on_segment(v1: PlineVertex, v2: PlineVertex, p: Vector2, limit: f64) -> RootedTest
+    ensures { λ r. ⌜ testTally r ≡ onSegmentBy counting double limit v1 v2 p ⌝ }
 {
     if near_an_end(v1, v2, p) {
         return RootedTest { on: true, roots: 0 };
     }
-    near_closest_point(v1, v2, p)
+    near_closest_point(v1, v2, p, limit)
 }
 
 // Whether a point lies on segment k of an outline.
-pub fn point_is_on_segment(source: &[f64], k: usize, p: Vector2) -> RootedTest
+pub fn point_is_on_segment(source: &[f64], k: usize, p: Vector2, limit: f64) -> RootedTest
     requires { ⌜ Index (now source) k ⌝ }
-    ensures { λ r. ⌜ testTally r ≡ onOutlineBy counting double (double .line) (now (source .entry)) k p ⌝ }
+    ensures { λ r. ⌜ testTally r ≡ onOutlineBy counting double limit (now (source .entry)) k p ⌝ }
 {
     let v1 = vertex_at(source, k);
-    is_on_segment(v1, vertex_past(source, k, 1), p)
+    is_on_segment(v1, vertex_past(source, k, 1), p, limit)
 }
 
 // Segment k of an outline, split at a point.
-pub fn split_segment(source: &[f64], k: usize, p: Vector2, eps: f64) -> SplitResult
+pub fn split_segment(source: &[f64], k: usize, p: Vector2, eps: f64, limit: f64) -> SplitResult
     requires { ⌜ Index (now source) k ⌝ }
-    ensures { λ r. ⌜ r ≡ splitSegment double (double .line) (now (source .entry)) k p eps ⌝ }
+    ensures { λ r. ⌜ r ≡ splitSegment double limit (now (source .entry)) k p eps ⌝ }
 {
     let v1 = vertex_at(source, k);
-    split_at_point(v1, vertex_past(source, k, 1), p, eps)
+    split_at_point(v1, vertex_past(source, k, 1), p, eps, limit)
 }

@@ -12,10 +12,12 @@ use crate::validation::ViewDataValidation;
 use crate::view_data::PlineViewData;
 use plane::PlineVertex;
 use plane::fuzzy_eq_eps;
+use plane::limit_in_range;
 use plane::outline_is_whole;
 use real::BAD_INDEX;
 use real::BAD_NUMBER;
 use real::BAD_OUTLINE;
+use real::BAD_TOLERANCE;
 ghost use mathlib.Core.Path.{_≡_};
 ghost use Prim.Native.Nat.{_+_, _≤_};
 ghost use Rattle.real.specs.Tally.{tally, counting};
@@ -73,15 +75,15 @@ fn judge_ended(d: PlineViewData, ended: RootedTest, v: PlineVertex, roots: u8) -
 }
 
 // Verdicts 3 to 7.
-fn judge(source: &[f64], d: PlineViewData) -> Judgement
+fn judge(source: &[f64], d: PlineViewData, limit: f64) -> Judgement
     requires { ⌜ Placed (now source) d ⌝ }
-    ensures { λ r. ⌜ judgedTally r ≡ placedBy counting double (double .line) (now (source .entry)) d ⌝ }
+    ensures { λ r. ⌜ judgedTally r ≡ placedBy counting double limit (now (source .entry)) d ⌝ }
 {
     let count = source.len() / 3;
     let start = d.start_index;
     let first = d.updated_start;
     let p = first.pos();
-    let started = point_is_on_segment(source, start, p);
+    let started = point_is_on_segment(source, start, p, limit);
     if !started.on {
         return Judgement {
             verdict: ViewDataValidation::UpdatedStartNotOnSegment { start_point: p },
@@ -90,14 +92,14 @@ fn judge(source: &[f64], d: PlineViewData) -> Judgement
     }
     let last = fwd_wrapping_index(start, d.end_index_offset, count);
     let end = d.end_point;
-    let ended = point_is_on_segment(source, last, end);
+    let ended = point_is_on_segment(source, last, end, limit);
     judge_ended(d, ended, vertex_at(source, last), started.roots)
 }
 
 // Verdicts 1 and 2, then refusal 4, then the others.
-fn judge_counts(source: &[f64], d: PlineViewData) -> ValidationAnswer
+fn judge_counts(source: &[f64], d: PlineViewData, limit: f64) -> ValidationAnswer
     requires { ⌜ countOf (now source) ≤ mostVertices ⌝ }
-    ensures { λ r. ⌜ validationReply r ≡ countsBy counting double (double .line) (now (source .entry)) d ⌝ }
+    ensures { λ r. ⌜ validationReply r ≡ countsBy counting double limit (now (source .entry)) d ⌝ }
 {
     let count = source.len() / 3;
     let offset = d.end_index_offset;
@@ -120,13 +122,13 @@ fn judge_counts(source: &[f64], d: PlineViewData) -> ValidationAnswer
     if start >= count {
         return ValidationAnswer::Refused(BAD_INDEX);
     }
-    ValidationAnswer::Given(judge(source, d))
+    ValidationAnswer::Given(judge(source, d, limit))
 }
 
 impl PlineViewData {
     // The crate's verdict on the record over an outline, and how many square roots it took.
-    pub fn validate_for_source(self, source: &[f64]) -> ValidationAnswer
-        ensures { λ r. ⌜ validationReply r ≡ validateCounted double (double .line) (now (source .entry)) self ⌝ }
+    pub fn validate_for_source(self, source: &[f64], limit: f64) -> ValidationAnswer
+        ensures { λ r. ⌜ validationReply r ≡ validateCounted double limit (now (source .entry)) self ⌝ }
     {
         if !outline_is_whole(source) {
             return ValidationAnswer::Refused(BAD_OUTLINE);
@@ -134,14 +136,17 @@ impl PlineViewData {
         if !numbers_in_range(source, self) {
             return ValidationAnswer::Refused(BAD_NUMBER);
         }
-        judge_counts(source, self)
+        if !limit_in_range(limit) {
+            return ValidationAnswer::Refused(BAD_TOLERANCE);
+        }
+        judge_counts(source, self, limit)
     }
 
     // Whether the view is cut or held.
-    pub fn mark(self, source: &[f64], closed: bool) -> MarkAnswer
-        ensures { λ r. ⌜ markReply r ≡ markAnswer closed (now (source .entry)) self (validateOf double (double .line) (now (source .entry)) self) ⌝ }
+    pub fn mark(self, source: &[f64], closed: bool, limit: f64) -> MarkAnswer
+        ensures { λ r. ⌜ markReply r ≡ markAnswer closed (now (source .entry)) self (validateOf double limit (now (source .entry)) self) ⌝ }
     {
-        let answer = self.validate_for_source(source);
+        let answer = self.validate_for_source(source, limit);
         match answer {
             ValidationAnswer::Given(judged) => {
                 let verdict = judged.verdict;

@@ -22,7 +22,7 @@ on-arc c =
     let at-arc-closest = c .before in
     let at-arc-center = at-arc-closest .before in
     let at-if1 = at-arc-center .before in
-    no _ (at-if1 .before .bulge-is-zero .ensures) (at-if1 .if1 .left) (value-of (rw (at-arc-center .arc-center .ensures) at (at-arc-closest .arc-closest .ensures)) ∙ arc-value double (double .line) _ _ _ _ _)
+    no _ (at-if1 .before .bulge-is-zero .ensures) (at-if1 .if1 .left) (value-of (rw (at-arc-center .arc-center .ensures) at (at-arc-closest .arc-closest .ensures)) ∙ arc-value double _ _ _ _ _)
 
 pub closest-spec : {M : Type 1} → statement M
 closest-spec = tie.close (tie.spec (λ c κs. tt) (λ c κs. tt) (λ c κs. tt) (λ c κs. tt) on-line (λ c κs. tt) (λ c κs. tt) on-arc)

@@ -9,8 +9,8 @@ unfolding segFar
 answered c =
     let at-magnitude = c .before in
     let at-if4 = at-magnitude .before in
-    let at-tol-in-range = at-if4 .before in
-    let at-if3 = at-tol-in-range .before in
+    let at-tol-and-limit-in-range = at-if4 .before in
+    let at-if3 = at-tol-and-limit-in-range .before in
     let at-coord-in-range = at-if3 .before in
     let at-if2 = at-coord-in-range .before in
     let at-point-in-range = at-if2 .before in
@@ -19,7 +19,7 @@ answered c =
     good _ (at-seg-in-range .seg-in-range .ensures) (at-if1 .if1 .left)
     (good _ (at-point-in-range .point-in-range .ensures) (at-if2 .if2 .left)
     (good _ (at-coord-in-range .coord-in-range .ensures) (at-if3 .if3 .left)
-    (good _ (at-tol-in-range .tol-in-range .ensures) (at-if4 .if4 .left)
+    (good _ (at-tol-and-limit-in-range .tol-and-limit-in-range .ensures) (at-if4 .if4 .left)
     (given-is (rw (at-magnitude .magnitude .ensures) at (c .far .ensures))))))
 
 pub seg-distance-is-greater-than-spec : {M : Type 1} → statement M

@@ -1,4 +1,4 @@
--- The fuzzy test's promise, at zero and the default limit.
+-- The fuzzy test's promise, at zero and the limit.
 use Rattle.plane.proofs.pline_vertex.PlineVertex.bulge_is_zero.Statement.{statement}
 use Rattle.plane.proofs.pline_vertex.PlineVertex.bulge_is_zero.Tie as tie
 

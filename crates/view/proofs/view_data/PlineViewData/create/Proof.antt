@@ -10,7 +10,7 @@ use Rattle.real.specs.Reply.{Reply, check}
 use Rattle.real.proofs.Pick.{picks, good, bad, passed}
 use Rattle.real.proofs.Replies.{and-both}
 use Rattle.plane.specs.Grade.{double}
-use Rattle.plane.specs.Range.{tolOk, pointOk, vertexOk}
+use Rattle.plane.specs.Range.{tolOk, limitOk, pointOk, vertexOk}
 use Rattle.view.specs.Outline.{countOf, viewable, numbersOk}
 use Rattle.view.specs.Create.{createOf}
 use Rattle.view.specs.declared.view_data.PlineViewData.{PlineViewData}
@@ -20,16 +20,16 @@ use Rattle.view.proofs.view_data.PlineViewData.create.Tie as tie
 
 -- past the third guard, and past the fourth, an answer is the definition's if it is what the definition has there
 past3 : (c : tie.Else3) {r x : Reply PlineViewData} → r ≡ x → let a = c .before .before .before .before .before .before .before .args in let s = now (a .source) in
-    r ≡ check (viewable s) badOutline (check (numbersOk double s && (pointOk double (a .p) && vertexOk double (a .first))) badNumber (check (tolOk double (a .eps)) badTolerance x))
+    r ≡ check (viewable s) badOutline (check (numbersOk double s && (pointOk double (a .p) && vertexOk double (a .first))) badNumber (check (tolOk double (a .eps) && limitOk double (a .limit)) badTolerance x))
 past3 c e =
     let at2 = c .before .before in
     let at1 = at2 .before .before in
     good _ (at1 .before .serves-views .ensures) (at1 .if1 .left)
     (good _ (at2 .before .all-in-range .ensures) (at2 .if2 .left)
-    (good _ (c .before .tol-in-range .ensures) (c .if3 .left) e))
+    (good _ (c .before .tol-and-limit-in-range .ensures) (c .if3 .left) e))
 
 past4 : (c : tie.Else4) {r x : Reply PlineViewData} → r ≡ x → let a = c .before .before .before .before .before .before .before .before .args in let s = now (a .source) in
-    r ≡ check (viewable s) badOutline (check (numbersOk double s && (pointOk double (a .p) && vertexOk double (a .first))) badNumber (check (tolOk double (a .eps)) badTolerance (check (ltb 0 (a .traverse)) badOffset x)))
+    r ≡ check (viewable s) badOutline (check (numbersOk double s && (pointOk double (a .p) && vertexOk double (a .first))) badNumber (check (tolOk double (a .eps) && limitOk double (a .limit)) badTolerance (check (ltb 0 (a .traverse)) badOffset x)))
 past4 c e = past3 (c .before) (simp (lt-ltb 0 (c .before .before .before .before .before .before .before .before .args .traverse) (omega (arith, c .if4 .left))) e)
 
 returns-4 : tie.Need-returns-4

@@ -8,7 +8,7 @@ use Rattle.real.specs.Refusal.{badNumber, badTolerance, badOutline, notClosed}
 use Rattle.real.specs.Reply.{Reply, check}
 use Rattle.real.proofs.Pick.{picks, good, bad, passed}
 use Rattle.plane.specs.Grade.{double}
-use Rattle.plane.specs.Range.{mostVertices, tolOk, pointOk}
+use Rattle.plane.specs.Range.{mostVertices, tolOk, limitOk, pointOk}
 use Rattle.view.specs.Outline.{countOf, viewable, numbersOk}
 use Rattle.view.specs.Create.{newStartOf}
 use Rattle.view.specs.declared.view_data.PlineViewData.{PlineViewData}
@@ -21,16 +21,16 @@ few c = viewable-in _ (passed (c .before .serves-views .ensures) (c .if1 .left))
 
 -- past the third guard, and past the fourth, an answer is the definition's if it is what the definition has there
 past3 : (c : tie.Else3) {r x : Reply PlineViewData} → r ≡ x → let a = c .before .before .before .before .before .before .before .args in let s = now (a .source) in
-    r ≡ check (viewable s) badOutline (check (numbersOk double s && pointOk double (a .p)) badNumber (check (tolOk double (a .eps)) badTolerance x))
+    r ≡ check (viewable s) badOutline (check (numbersOk double s && pointOk double (a .p)) badNumber (check (tolOk double (a .eps) && limitOk double (a .limit)) badTolerance x))
 past3 c e =
     let at2 = c .before .before in
     let at1 = at2 .before .before in
     good _ (at1 .before .serves-views .ensures) (at1 .if1 .left)
     (good _ (at2 .before .outline-and-point-in-range .ensures) (at2 .if2 .left)
-    (good _ (c .before .tol-in-range .ensures) (c .if3 .left) e))
+    (good _ (c .before .tol-and-limit-in-range .ensures) (c .if3 .left) e))
 
 past4 : (c : tie.Else4) {r x : Reply PlineViewData} → r ≡ x → let a = c .before .before .before .before .before .before .before .before .args in let s = now (a .source) in
-    r ≡ check (viewable s) badOutline (check (numbersOk double s && pointOk double (a .p)) badNumber (check (tolOk double (a .eps)) badTolerance (check (a .closed) notClosed x)))
+    r ≡ check (viewable s) badOutline (check (numbersOk double s && pointOk double (a .p)) badNumber (check (tolOk double (a .eps) && limitOk double (a .limit)) badTolerance (check (a .closed) notClosed x)))
 past4 c e = past3 (c .before) (good {t = c .before .before .before .before .before .before .before .before .args .closed} _ refl (c .if4 .left) e)
 
 returns-4 : tie.Need-returns-4
