@@ -73,12 +73,12 @@ module _ (s : List Float) (d d′ : PlineViewData) where
       ends t true = omega (arith, t .clear .placed .offset)
       ends t false = omega (arith, t .clear .placed .offset)
 
-module _ (s : List Float) (p : Vector2) (eps : Float) (d : PlineViewData) where
-  pub create-placed : (start at : ℕ) (first : PlineVertex) (traverse : ℕ) → given d ≡ createOf double (double .line) s start p at first traverse eps → Placed s d
-  create-placed start at first traverse e = create-fresh double double-sound (double .line) s p eps d start at first traverse (sym e) .fine .clear .placed
+module _ (limit : Float) (s : List Float) (p : Vector2) (eps : Float) (d : PlineViewData) where
+  pub create-placed : (start at : ℕ) (first : PlineVertex) (traverse : ℕ) → given d ≡ createOf double limit s start p at first traverse eps → Placed s d
+  create-placed start at first traverse e = create-fresh double double-sound limit s p eps d start at first traverse (sym e) .fine .clear .placed
 
-  pub new-start-placed : (closed : Bool) (start : ℕ) → given d ≡ newStartOf double (double .line) s closed p start eps → Placed s d
-  new-start-placed closed start e = new-start-fresh double double-sound (double .line) s p eps d closed start (sym e) .fine .clear .placed
+  pub new-start-placed : (closed : Bool) (start : ℕ) → given d ≡ newStartOf double limit s closed p start eps → Placed s d
+  new-start-placed closed start e = new-start-fresh double double-sound limit s p eps d closed start (sym e) .fine .clear .placed
 
 -- so such a record is written as its 64 bytes
 module _ (s : List Float) {before after : List ℕ} {n : ℕ} {y : Reply PlineViewData} where
@@ -88,10 +88,10 @@ module _ (s : List Float) {before after : List ℕ} {n : ℕ} {y : Reply PlineVi
   pub trim-answered : (d : PlineViewData) (i j : ℕ) → y ≡ trimOf double s d i j → RecordAnswered y before n after → Answered recordBytes y before n after
   trim-answered d i j e = placed-answered s y (λ r f. trim-placed s d r i j (f ∙ e))
 
-  pub create-answered : (start : ℕ) (p : Vector2) (at : ℕ) (first : PlineVertex) (traverse : ℕ) (eps : Float) → y ≡ createOf double (double .line) s start p at first traverse eps
+  pub create-answered : (limit : Float) (start : ℕ) (p : Vector2) (at : ℕ) (first : PlineVertex) (traverse : ℕ) (eps : Float) → y ≡ createOf double limit s start p at first traverse eps
       → RecordAnswered y before n after → Answered recordBytes y before n after
-  create-answered start p at first traverse eps e = placed-answered s y (λ r f. create-placed s p eps r start at first traverse (f ∙ e))
+  create-answered limit start p at first traverse eps e = placed-answered s y (λ r f. create-placed limit s p eps r start at first traverse (f ∙ e))
 
-  pub new-start-answered : (closed : Bool) (p : Vector2) (start : ℕ) (eps : Float) → y ≡ newStartOf double (double .line) s closed p start eps → RecordAnswered y before n after
+  pub new-start-answered : (limit : Float) (closed : Bool) (p : Vector2) (start : ℕ) (eps : Float) → y ≡ newStartOf double limit s closed p start eps → RecordAnswered y before n after
       → Answered recordBytes y before n after
-  new-start-answered closed p start eps e = placed-answered s y (λ r f. new-start-placed s p eps r closed start (f ∙ e))
+  new-start-answered limit closed p start eps e = placed-answered s y (λ r f. new-start-placed limit s p eps r closed start (f ∙ e))

@@ -16,10 +16,10 @@ next-is : (part : Part) (s : Segment) (r : SplitResult) → nextNumbers part (se
 next-is first s r = refl
 next-is second s r = refl
 
-rows : (cs : List SplitStep) (s : Segment) → numbersRow cs (segmentNumbers s) ≡ andThen (splitRow double (double .line) cs s) (λ t. given (segmentNumbers t))
+rows : (cs : List SplitStep) (s : Segment) → numbersRow cs (segmentNumbers s) ≡ andThen (splitRow double cs s) (λ t. given (segmentNumbers t))
 unfolding numbersRow splitRow andThen segmentFrom
 rows [] s = refl
-rows (c ∷ cs) s = joined (splitBy double (double .line) c s) _ _ _ (λ r. rw (next-is (c .part) s r) (rows cs (partOf (c .part) (s .end) r)))
+rows (c ∷ cs) s = joined (splitBy double c s) _ _ _ (λ r. rw (next-is (c .part) s r) (rows cs (partOf (c .part) (s .end) r)))
 
 pub numbers-row : (s : Segment) → NumbersRow s
 numbers-row s = record { rows = λ cs. rows cs s; written = λ r before after code h w. fills splitNumbers (sym h) w }

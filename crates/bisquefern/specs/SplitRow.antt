@@ -18,7 +18,7 @@ segmentNumbers s = vertexNumbers (s .start) ++ vertexNumbers (s .end)
 
 -- the reply that `bf_seg_split_at_point` promises
 abbrev pub numbersSplit : SplitStep → List Float → Reply SplitResult
-numbersSplit c s = ofSegment s (λ v1 v2. segSplit double (double .line) v1 v2 (c .point) (c .tolerance))
+numbersSplit c s = ofSegment s (λ v1 v2. segSplit double (c .limit) v1 v2 (c .point) (c .tolerance))
 
 -- the next call's six numbers: those that were written, or the split vertex and then the old end
 abbrev pub nextNumbers : Part → List Float → List Float → List Float
@@ -32,6 +32,6 @@ numbersRow (c ∷ cs) s = andThen (numbersSplit c s) (λ r. numbersRow cs (nextN
 
 pub record NumbersRow (s : Segment) : Type 0 where
   -- a row over numbers is the row over segments, of which `HalfCircle` says the rest
-  pub rows : (cs : List SplitStep) → numbersRow cs (segmentNumbers s) ≡ andThen (splitRow double (double .line) cs s) (λ t. given (segmentNumbers t))
+  pub rows : (cs : List SplitStep) → numbersRow cs (segmentNumbers s) ≡ andThen (splitRow double cs s) (λ t. given (segmentNumbers t))
   -- and a buffer of six numbers holds, after a call that answers, just those that `nextNumbers` takes
   pub written : (r : SplitResult) (before after : List Float) (code : ℕ) → length before ≡ 6 → Answered splitNumbers (given r) before code after → after ≡ splitNumbers r

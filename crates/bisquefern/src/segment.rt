@@ -26,14 +26,17 @@ ghost use Rattle.lent.specs.Lent.{Answered};
 ghost use Rattle.lent.specs.Values as values;
 ghost use Rattle.bisquefern.specs.Calls.{ofSegment, point};
 
-// Radius and centre of an arc. 3, 1, 6, 8.
+// Radius and centre of an arc. 3, 1, 2, 6, 8.
 #[no_mangle]
-pub extern "C" fn bf_seg_arc_radius_and_center(seg: &[f64], out: &mut [f64]) -> u8
-    ensures { λ r. ⌜ Answered values.circleNumbers (ofSegment (now (seg .entry)) (segCircle double (double .line))) (now (out .entry)) r (now (out .exit)) ⌝ }
+pub extern "C" fn bf_seg_arc_radius_and_center(seg: &[f64], line_limit: f64, out: &mut [f64]) -> u8
+    ensures { λ r. ⌜ Answered values.circleNumbers (ofSegment (now (seg .entry)) (segCircle double «line_limit»)) (now (out .entry)) r (now (out .exit)) ⌝ }
 {
     let segment = segment_from_slice(seg);
     match segment {
-        SegmentAnswer::Given(v1, v2) => give_circle(seg_arc_radius_and_center(v1, v2), out),
+        SegmentAnswer::Given(v1, v2) => give_circle(
+            seg_arc_radius_and_center(v1, v2, line_limit),
+            out,
+        ),
         SegmentAnswer::Refused(n) => n,
     }
 }
@@ -45,29 +48,39 @@ pub extern "C" fn bf_seg_split_at_point(
     x: f64,
     y: f64,
     tolerance: f64,
+    line_limit: f64,
     out: &mut [f64],
 ) -> u8
-    ensures { λ r. ⌜ Answered values.splitNumbers (ofSegment (now (seg .entry)) (λ v1 v2. segSplit double (double .line) v1 v2 (point x y) tolerance)) (now (out .entry)) r (now (out .exit)) ⌝ }
+    ensures { λ r. ⌜ Answered values.splitNumbers (ofSegment (now (seg .entry)) (λ v1 v2. segSplit double «line_limit» v1 v2 (point x y) tolerance)) (now (out .entry)) r (now (out .exit)) ⌝ }
 {
     let segment = segment_from_slice(seg);
     match segment {
         SegmentAnswer::Given(v1, v2) => give_split(
-            seg_split_at_point(v1, v2, Vector2 { x, y }, tolerance),
+            seg_split_at_point(v1, v2, Vector2 { x, y }, tolerance, line_limit),
             out,
         ),
         SegmentAnswer::Refused(n) => n,
     }
 }
 
-// 3, 1, 8.
+// 3, 1, 2, 8.
 #[no_mangle]
-pub extern "C" fn bf_seg_tangent_vector(seg: &[f64], x: f64, y: f64, out: &mut [f64]) -> u8
-    ensures { λ r. ⌜ Answered values.pointNumbers (ofSegment (now (seg .entry)) (λ v1 v2. segTangent double (double .line) v1 v2 (point x y))) (now (out .entry)) r (now (out .exit)) ⌝ }
+pub extern "C" fn bf_seg_tangent_vector(
+    seg: &[f64],
+    x: f64,
+    y: f64,
+    line_limit: f64,
+    out: &mut [f64],
+) -> u8
+    ensures { λ r. ⌜ Answered values.pointNumbers (ofSegment (now (seg .entry)) (λ v1 v2. segTangent double «line_limit» v1 v2 (point x y))) (now (out .entry)) r (now (out .exit)) ⌝ }
 {
     let segment = segment_from_slice(seg);
     match segment {
         SegmentAnswer::Given(v1, v2) => {
-            give_point(seg_tangent_vector(v1, v2, Vector2 { x, y }), out)
+            give_point(
+                seg_tangent_vector(v1, v2, Vector2 { x, y }, line_limit),
+                out,
+            )
         }
         SegmentAnswer::Refused(n) => n,
     }
@@ -80,14 +93,15 @@ pub extern "C" fn bf_seg_closest_point(
     x: f64,
     y: f64,
     tolerance: f64,
+    line_limit: f64,
     out: &mut [f64],
 ) -> u8
-    ensures { λ r. ⌜ Answered values.pointNumbers (ofSegment (now (seg .entry)) (λ v1 v2. segClosest double (double .line) v1 v2 (point x y) tolerance)) (now (out .entry)) r (now (out .exit)) ⌝ }
+    ensures { λ r. ⌜ Answered values.pointNumbers (ofSegment (now (seg .entry)) (λ v1 v2. segClosest double «line_limit» v1 v2 (point x y) tolerance)) (now (out .entry)) r (now (out .exit)) ⌝ }
 {
     let segment = segment_from_slice(seg);
     match segment {
         SegmentAnswer::Given(v1, v2) => give_point(
-            seg_closest_point(v1, v2, Vector2 { x, y }, tolerance),
+            seg_closest_point(v1, v2, Vector2 { x, y }, tolerance, line_limit),
             out,
         ),
         SegmentAnswer::Refused(n) => n,
@@ -102,40 +116,41 @@ pub extern "C" fn bf_seg_distance_is_greater_than(
     y: f64,
     distance: f64,
     tolerance: f64,
+    line_limit: f64,
     out: &mut [u8],
 ) -> u8
-    ensures { λ r. ⌜ Answered values.flagByte (ofSegment (now (seg .entry)) (λ v1 v2. segFar double (double .line) v1 v2 (point x y) distance tolerance)) (now (out .entry)) r (now (out .exit)) ⌝ }
+    ensures { λ r. ⌜ Answered values.flagByte (ofSegment (now (seg .entry)) (λ v1 v2. segFar double «line_limit» v1 v2 (point x y) distance tolerance)) (now (out .entry)) r (now (out .exit)) ⌝ }
 {
     let segment = segment_from_slice(seg);
     match segment {
         SegmentAnswer::Given(v1, v2) => give_flag(
-            seg_distance_is_greater_than(v1, v2, Vector2 { x, y }, distance, tolerance),
+            seg_distance_is_greater_than(v1, v2, Vector2 { x, y }, distance, tolerance, line_limit),
             out,
         ),
         SegmentAnswer::Refused(n) => n,
     }
 }
 
-// Least x and y, greatest x and y. 3, 1, 8.
+// Least x and y, greatest x and y. 3, 1, 2, 8.
 #[no_mangle]
-pub extern "C" fn bf_seg_bounding_box(seg: &[f64], out: &mut [f64]) -> u8
-    ensures { λ r. ⌜ Answered values.boxNumbers (ofSegment (now (seg .entry)) (segBox double (double .line))) (now (out .entry)) r (now (out .exit)) ⌝ }
+pub extern "C" fn bf_seg_bounding_box(seg: &[f64], line_limit: f64, out: &mut [f64]) -> u8
+    ensures { λ r. ⌜ Answered values.boxNumbers (ofSegment (now (seg .entry)) (segBox double «line_limit»)) (now (out .entry)) r (now (out .exit)) ⌝ }
 {
     let segment = segment_from_slice(seg);
     match segment {
-        SegmentAnswer::Given(v1, v2) => give_box(seg_bounding_box(v1, v2), out),
+        SegmentAnswer::Given(v1, v2) => give_box(seg_bounding_box(v1, v2, line_limit), out),
         SegmentAnswer::Refused(n) => n,
     }
 }
 
-// 3, 1, 8.
+// 3, 1, 2, 8.
 #[no_mangle]
-pub extern "C" fn bf_seg_midpoint(seg: &[f64], out: &mut [f64]) -> u8
-    ensures { λ r. ⌜ Answered values.pointNumbers (ofSegment (now (seg .entry)) (segMid double (double .line))) (now (out .entry)) r (now (out .exit)) ⌝ }
+pub extern "C" fn bf_seg_midpoint(seg: &[f64], line_limit: f64, out: &mut [f64]) -> u8
+    ensures { λ r. ⌜ Answered values.pointNumbers (ofSegment (now (seg .entry)) (segMid double «line_limit»)) (now (out .entry)) r (now (out .exit)) ⌝ }
 {
     let segment = segment_from_slice(seg);
     match segment {
-        SegmentAnswer::Given(v1, v2) => give_point(seg_midpoint(v1, v2), out),
+        SegmentAnswer::Given(v1, v2) => give_point(seg_midpoint(v1, v2, line_limit), out),
         SegmentAnswer::Refused(n) => n,
     }
 }

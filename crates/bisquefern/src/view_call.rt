@@ -31,9 +31,10 @@ pub extern "C" fn bf_view_create(
     vertex: &[f64],
     traverse: u64,
     tolerance: f64,
+    line_limit: f64,
     out: &mut [u8],
 ) -> u8
-    ensures { λ r. ⌜ Answered recordBytes (ofVertex (now (vertex .entry)) (λ v. createOf double (double .line) (now (outline .entry)) start (point x y) intersect v traverse tolerance)) (now (out .entry)) r (now (out .exit)) ⌝ }
+    ensures { λ r. ⌜ Answered recordBytes (ofVertex (now (vertex .entry)) (λ v. createOf double «line_limit» (now (outline .entry)) start (point x y) intersect v traverse tolerance)) (now (out .entry)) r (now (out .exit)) ⌝ }
 {
     if vertex.len() != 3 {
         return BAD_OUTLINE;
@@ -52,6 +53,7 @@ pub extern "C" fn bf_view_create(
             first,
             traverse as usize,
             tolerance,
+            line_limit,
         ),
         out,
     )
@@ -66,9 +68,10 @@ pub extern "C" fn bf_view_from_new_start(
     y: f64,
     start: u64,
     tolerance: f64,
+    line_limit: f64,
     out: &mut [u8],
 ) -> u8
-    ensures { λ r. ⌜ Answered recordBytes (newStartOf double (double .line) (now (outline .entry)) (isClosed closed) (point x y) start tolerance) (now (out .entry)) r (now (out .exit)) ⌝ }
+    ensures { λ r. ⌜ Answered recordBytes (newStartOf double «line_limit» (now (outline .entry)) (isClosed closed) (point x y) start tolerance) (now (out .entry)) r (now (out .exit)) ⌝ }
 {
     give_record(
         PlineViewData::from_new_start(
@@ -77,36 +80,48 @@ pub extern "C" fn bf_view_from_new_start(
             Vector2 { x, y },
             start as usize,
             tolerance,
+            line_limit,
         ),
         out,
     )
 }
 
-// The verdict with its counts, the square roots that it took, and its numbers. 11, 12, 3, 1, 4, 8.
+// The verdict with its counts, the square roots that it took, and its numbers. 11, 12, 3, 1, 2, 4, 8.
 #[no_mangle]
 pub extern "C" fn bf_view_validate(
     outline: &[f64],
     bytes: &[u8],
+    line_limit: f64,
     whole: &mut [u64],
     out: &mut [f64],
 ) -> u8
-    ensures { λ r. ⌜ BothAnswered verdictValues (ofRecord (now (bytes .entry)) (validateCounted double (double .line) (now (outline .entry)))) (both (now (whole .entry)) (now (out .entry))) r (both (now (whole .exit)) (now (out .exit))) ⌝ }
+    ensures { λ r. ⌜ BothAnswered verdictValues (ofRecord (now (bytes .entry)) (validateCounted double «line_limit» (now (outline .entry)))) (both (now (whole .entry)) (now (out .entry))) r (both (now (whole .exit)) (now (out .exit))) ⌝ }
 {
     let decoded = record_from_bytes(bytes);
     match decoded {
-        RecordAnswer::Given(d) => give_verdict(d.validate_for_source(outline), whole, out),
+        RecordAnswer::Given(d) => give_verdict(
+            d.validate_for_source(outline, line_limit),
+            whole,
+            out,
+        ),
         RecordAnswer::Refused(n) => n,
     }
 }
 
-// 1 for cut, 0 for hold. 11, 12, 3, 1, 4, 8.
+// 1 for cut, 0 for hold. 11, 12, 3, 1, 2, 4, 8.
 #[no_mangle]
-pub extern "C" fn bf_view_mark(outline: &[f64], closed: u8, bytes: &[u8], out: &mut [u8]) -> u8
-    ensures { λ r. ⌜ Answered markByte (ofRecord (now (bytes .entry)) (λ d. markAnswer (isClosed closed) (now (outline .entry)) d (validateOf double (double .line) (now (outline .entry)) d))) (now (out .entry)) r (now (out .exit)) ⌝ }
+pub extern "C" fn bf_view_mark(
+    outline: &[f64],
+    closed: u8,
+    bytes: &[u8],
+    line_limit: f64,
+    out: &mut [u8],
+) -> u8
+    ensures { λ r. ⌜ Answered markByte (ofRecord (now (bytes .entry)) (λ d. markAnswer (isClosed closed) (now (outline .entry)) d (validateOf double «line_limit» (now (outline .entry)) d))) (now (out .entry)) r (now (out .exit)) ⌝ }
 {
     let decoded = record_from_bytes(bytes);
     match decoded {
-        RecordAnswer::Given(d) => give_mark(d.mark(outline, closed != 0), out),
+        RecordAnswer::Given(d) => give_mark(d.mark(outline, closed != 0, line_limit), out),
         RecordAnswer::Refused(n) => n,
     }
 }

@@ -5,12 +5,13 @@ use native.Mathlib.Omega.{arith}
 use mathlib.Core.Bool.{Bool, true, false, _&&_}
 use mathlib.Core.List.{List, _++_}
 use lib.ListN.{length}
+use lib.Ieee.{ofBits, le, lt, eq}
 use borrow.Author.Tests.{le-leb, lt-leb}
 use Rattle.real.specs.Refusal.{badNumber, badOutline, badSheet, badRecord}
 use Rattle.real.specs.Reply.{given, check}
 use Rattle.real.specs.Tally.{plain}
 use Rattle.plane.specs.Grade.{double}
-use Rattle.plane.specs.Range.{mostVertices, wholeOutline}
+use Rattle.plane.specs.Range.{mostVertices, wholeOutline, limitOk}
 use Rattle.lists.proofs.Tab.{length-tab}
 use Rattle.view.specs.Outline.{numbersOk}
 use Rattle.view.specs.Record.{recordOk}
@@ -68,7 +69,7 @@ unfolding sheetTextUnder headerUnder
 over m b h = simp (lt-leb (vertices b) m h, and-false)
 
 stands : (b : List ℕ) → sheetTextUnder mostVertices b ≡ sheetText b
-unfolding sheetTextUnder wholeTextUnder viewTextUnder validateUnder wholeUnder sheetText sheetOf headerOk wholeText viewText validateBy wholeOutline
+unfolding sheetTextUnder wholeTextUnder viewTextUnder validateUnder wholeUnder sheetText sheetOf headerOk wholeText viewText validateBy wholeOutline limitOk ofBits le lt eq
 stands b = refl
 
 read : (b : List ℕ) (m : ℕ) → vertices b ≤ m → vertices b ≤ mostVertices → sheetTextUnder m b ≡ sheetText b

@@ -27,7 +27,7 @@ use Rattle.job.specs.Parts.{boxLine, answerText, sheetText}
 abbrev pub oldMost : ℕ
 oldMost = 1024
 
--- A sheet's text asks for the limit in two tests, the header's and validation's. Here both take another, and what they stand in is written out around them.
+-- A sheet's text asks for the limit in two tests, the header's and validation's. Here both take another, and what they stand in is written out around them; validation's line limit is the default, which is not refused.
 module _ (most : ℕ) where
   unfoldable pub wholeUnder : ℕ → Bool
   wholeUnder n = eqb (n % 3) 0 && leb (n / 3) most

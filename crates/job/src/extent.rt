@@ -1,5 +1,6 @@
 // The box of all segments of a sheet's outline.
 use crate::outline::vertex_in;
+use plane::LINE_LIMIT;
 use plane::PlineVertex;
 use seg::Bounds;
 use seg::BoxAnswer;
@@ -41,7 +42,7 @@ fn segment_box(v1: PlineVertex, v2: PlineVertex) -> Bounds
     requires { ⌜ segOk double v1 v2 ≡ true ⌝ }
     ensures { λ r. ⌜ r ≡ spec.segmentBox v1 v2 ⌝ }
 {
-    let answer = seg_bounding_box(v1, v2);
+    let answer = seg_bounding_box(v1, v2, LINE_LIMIT);
     match answer {
         BoxAnswer::Given(b) => b,
         BoxAnswer::Refused(_) => Bounds {

@@ -16,6 +16,7 @@ use crate::records::record_at;
 use crate::row::put_rows;
 use crate::size::LIST_NUMBERS;
 use crate::size::PART_BYTES;
+use plane::LINE_LIMIT;
 use record::record_of;
 use view::Mark;
 use view::PlineViewData;
@@ -121,7 +122,7 @@ fn put_view(
     requires { ⌜ (k < 10000) × (length (now list) ≡ views.listNumbers) ⌝ }
     ensures { λ r. ⌜ (views.Part (now (out .entry)) (views.viewText closed (now (outline .entry)) k d) (now (out .exit)) r) × (now (list .exit) ≡ views.viewBuffer closed (now (outline .entry)) d (now (list .entry))) ⌝ }
 {
-    let answer = d.validate_for_source(outline);
+    let answer = d.validate_for_source(outline, LINE_LIMIT);
     match answer {
         ValidationAnswer::Refused(number) => put_refused_view(out, k, number as usize),
         ValidationAnswer::Given(judged) => {

@@ -18,7 +18,7 @@ returns-2 c =
     let at-give-record = c .before .before in
     let at-create = at-give-record .before .before in
     let at-if1 = at-create .before .before .before .before in
-    replies (at-create .create .ensures ∙ simp (eq-eqb _ _ (at-if1 .if1 .left))) (create-answered _ _ _ _ _ _ _ (at-create .create .ensures) (at-give-record .give-record .ensures))
+    replies (at-create .create .ensures ∙ simp (eq-eqb _ _ (at-if1 .if1 .left))) (create-answered _ _ _ _ _ _ _ _ (at-create .create .ensures) (at-give-record .give-record .ensures))
 
 pub bf-view-create-spec : {M : Type 1} → statement M
 bf-view-create-spec = tie.close (tie.spec returns (λ c. search needs) (λ c. search needs) (λ c. search needs) (λ c κs. tt) (λ c κs. tt) (λ c. search needs) returns-2)
