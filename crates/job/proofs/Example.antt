@@ -2,7 +2,7 @@
 use mathlib.Core.Path.{refl}
 use lib.Ieee.{ofBits, toBits, neg, add, sub, mul, div, lt, le, eq}
 use Rattle.real.specs.Root.{absOf, rootOf}
-use Rattle.plane.specs.Range.{wholeOutline, coordOk, bulgeOk, pointOk, vertexOk}
+use Rattle.plane.specs.Range.{wholeOutline, coordOk, bulgeOk, limitOk, pointOk, vertexOk}
 use Rattle.seg.specs.Arc.{radiusOf, centerOf}
 use Rattle.seg.specs.Closest.{arcClosestBy, closestBy}
 use Rattle.seg.specs.Bounds.{startRadius, endRadius, arcBoxBy, arcBox, boxOf}
@@ -26,5 +26,5 @@ use Rattle.job.specs.Parts.{boxLine, wholeText, sheetText}
 use Rattle.job.specs.Example.{Examples}
 
 pub examples : Examples
-unfolding ofBits toBits neg add sub mul div lt le eq absOf rootOf wholeOutline coordOk bulgeOk pointOk vertexOk radiusOf centerOf arcClosestBy closestBy startRadius endRadius arcBoxBy arcBox boxOf tab forward vertexAt viewList all numbersOk recordOk nearClosestBy onSegmentBy onOutlineBy bulgesMatch endVerdict placedBy countsBy validateBy acrossGap markOf le16 le32 le64 floatAt hex decimals decimal float row numbered headerUnder headerOk fieldsOk numbersIn boxTo recordsOf sheetOf refusedLine outlineLine floats boxWords viewHead numberField viewLine markText verdictText viewText boxLine wholeText sheetText
+unfolding ofBits toBits neg add sub mul div lt le eq absOf rootOf wholeOutline coordOk bulgeOk limitOk pointOk vertexOk radiusOf centerOf arcClosestBy closestBy startRadius endRadius arcBoxBy arcBox boxOf tab forward vertexAt viewList all numbersOk recordOk nearClosestBy onSegmentBy onOutlineBy bulgesMatch endVerdict placedBy countsBy validateBy acrossGap markOf le16 le32 le64 floatAt hex decimals decimal float row numbered headerUnder headerOk fieldsOk numbersIn boxTo recordsOf sheetOf refusedLine outlineLine floats boxWords viewHead numberField viewLine markText verdictText viewText boxLine wholeText sheetText
 examples = record { example = refl; first = refl; last = refl; retired = refl; empty = refl }

@@ -40,16 +40,17 @@ pub fn on_segment(
     let y = number(words, wrapping_add_u64(at, 1));
     let a = number(words, wrapping_add_u64(at, 2));
     let b = number(words, wrapping_add_u64(at, 3));
+    let c = number(words, wrapping_add_u64(at, 4));
     match call {
         1 => bf_sqrt(x, out),
         2 => bf_vertex(s, out),
-        3 => bf_seg_arc_radius_and_center(s, out),
-        4 => bf_seg_split_at_point(s, x, y, a, out),
-        5 => bf_seg_tangent_vector(s, x, y, out),
-        6 => bf_seg_closest_point(s, x, y, a, out),
-        7 => bf_seg_distance_is_greater_than(s, x, y, a, b, byte),
-        8 => bf_seg_bounding_box(s, out),
-        _ => bf_seg_midpoint(s, out),
+        3 => bf_seg_arc_radius_and_center(s, x, out),
+        4 => bf_seg_split_at_point(s, x, y, a, b, out),
+        5 => bf_seg_tangent_vector(s, x, y, a, out),
+        6 => bf_seg_closest_point(s, x, y, a, b, out),
+        7 => bf_seg_distance_is_greater_than(s, x, y, a, b, c, byte),
+        8 => bf_seg_bounding_box(s, x, out),
+        _ => bf_seg_midpoint(s, x, out),
     }
 }
 
@@ -61,7 +62,19 @@ fn create(words: &[u64], at: u64, s: &[f64], vertex: &[f64], out: &mut [u8]) -> 
     let past = wrapping_add_u64(at, wrapping_add_u64(5, vertex.len() as u64));
     let traverse = word(words, past);
     let tolerance = number(words, wrapping_add_u64(past, 1));
-    bf_view_create(s, start, x, y, intersect, vertex, traverse, tolerance, out)
+    let limit = number(words, wrapping_add_u64(past, 2));
+    bf_view_create(
+        s,
+        start,
+        x,
+        y,
+        intersect,
+        vertex,
+        traverse,
+        tolerance,
+        limit,
+        out,
+    )
 }
 
 fn new_start(words: &[u64], at: u64, s: &[f64], out: &mut [u8]) -> u8 {
@@ -70,7 +83,8 @@ fn new_start(words: &[u64], at: u64, s: &[f64], out: &mut [u8]) -> u8 {
     let y = number(words, wrapping_add_u64(at, 2));
     let start = word(words, wrapping_add_u64(at, 3));
     let tolerance = number(words, wrapping_add_u64(at, 4));
-    bf_view_from_new_start(s, closed, x, y, start, tolerance, out)
+    let limit = number(words, wrapping_add_u64(at, 5));
+    bf_view_from_new_start(s, closed, x, y, start, tolerance, limit, out)
 }
 
 fn create_of(words: &[u64], at: u64, s: &[f64], vertex: &[f64], n: usize, out: &mut [u8]) -> u8 {
@@ -105,9 +119,10 @@ fn with_record(
 ) -> u8 {
     let i = word(words, past);
     let j = word(words, wrapping_add_u64(past, 1));
+    let limit = number(words, past);
     match call {
-        12 => bf_view_validate(s, record, whole, out),
-        13 => bf_view_mark(s, closed, record, byte),
+        12 => bf_view_validate(s, record, limit, whole, out),
+        13 => bf_view_mark(s, closed, record, limit, byte),
         14 => bf_view_count(s, record, whole),
         15 => bf_view_get(s, record, i, out),
         16 => bf_view_list(s, record, out, whole),
