@@ -11,6 +11,10 @@
  * An outline is 0 to 2,000 vertices of three numbers x, y, bulge. A segment is 6 numbers, its two vertices. The library
  * is for x86-64, a little-endian machine, where bf_record is the job sheet's record byte for byte.
  *
+ * A segment is a line where its bulge has a magnitude below `line_limit`, from 1e-8 to 1e-3, both included. The limit is in
+ * no other test. BF_LINE_LIMIT is the Rust crate's and the job sheet's; a larger one takes the flat arcs of a traced drawing
+ * for the lines that they were.
+ *
  * What no function can test is the caller's to see to:
  * - each slice lies in memory that may be read, an answer buffer in memory that may be written;
  * - an answer buffer overlaps no other slice of the call, and nothing else writes to any of them during the call;
@@ -31,7 +35,7 @@ extern "C" {
 
 enum bf_refusal {
     BF_BAD_NUMBER = 1,     /* a number is NaN, infinite or out of range */
-    BF_BAD_TOLERANCE = 2,  /* a tolerance is out of range or NaN */
+    BF_BAD_TOLERANCE = 2,  /* a tolerance or a line limit is out of range or NaN */
     BF_BAD_OUTLINE = 3,    /* not whole vertices, too many, too few for a view; a segment or vertex of another length */
     BF_BAD_INDEX = 4,      /* a start or intersect index or a position is not below its count */
     BF_BAD_OFFSET = 5,     /* an offset above the vertex count; a traverse count of 0 */
@@ -54,6 +58,9 @@ enum bf_verdict {
     BF_BULGES_DO_NOT_MATCH = 6,  /* the offset is 0, and the end bulge is not the start bulge, to 0.00001 */
     BF_VALID = 7                 /* none of these: the view may be cut */
 };
+
+/* The line limit where the job names none. */
+#define BF_LINE_LIMIT 1e-8
 
 /* Bytes of stack that are enough for any call. */
 enum { BF_STACK_BYTES = 4096 };
@@ -81,58 +88,59 @@ uint8_t bf_sqrt(double x, double *out, size_t out_len);
 /* The vertex of three numbers: x, y, bulge. 3, 1, 8. */
 uint8_t bf_vertex(const double *numbers, size_t numbers_len, double *out, size_t out_len);
 
-/* Radius, centre x, centre y. 3, 1, 6, 8. */
-uint8_t bf_seg_arc_radius_and_center(const double *seg, size_t seg_len, double *out, size_t out_len);
+/* Radius, centre x, centre y. 3, 1, 2, 6, 8. */
+uint8_t bf_seg_arc_radius_and_center(const double *seg, size_t seg_len, double line_limit, double *out, size_t out_len);
 
 /* The updated start and the split vertex: 6 numbers. 3, 1, 2, 8.
  *
  * Each part may be split again, as often as one likes: the first part is the 6 numbers, the second the last 3 of them and
- * then the end of `seg`. Its bulge is in range again, so that a call with 6 numbers and room refuses only a point or a
- * tolerance. A point off the arc can turn a part to the other side. */
-uint8_t bf_seg_split_at_point(const double *seg, size_t seg_len, double x, double y, double tolerance, double *out,
+ * then the end of `seg`. Its bulge is in range again, so that a call with 6 numbers and room refuses only a point, a
+ * tolerance or a limit. A point off the arc can turn a part to the other side. */
+uint8_t bf_seg_split_at_point(const double *seg, size_t seg_len, double x, double y, double tolerance,
+                              double line_limit, double *out, size_t out_len);
+
+/* The tangent at (x, y): 2 numbers. 3, 1, 2, 8. */
+uint8_t bf_seg_tangent_vector(const double *seg, size_t seg_len, double x, double y, double line_limit, double *out,
                               size_t out_len);
 
-/* The tangent at (x, y): 2 numbers. 3, 1, 8. */
-uint8_t bf_seg_tangent_vector(const double *seg, size_t seg_len, double x, double y, double *out, size_t out_len);
-
 /* The point of the segment that is nearest to (x, y): 2 numbers. 3, 1, 2, 8. */
-uint8_t bf_seg_closest_point(const double *seg, size_t seg_len, double x, double y, double tolerance, double *out,
-                             size_t out_len);
+uint8_t bf_seg_closest_point(const double *seg, size_t seg_len, double x, double y, double tolerance,
+                             double line_limit, double *out, size_t out_len);
 
 /* 1 where (x, y) is farther from the segment than the distance, else 0: 1 byte. 3, 1, 2, 8. */
 uint8_t bf_seg_distance_is_greater_than(const double *seg, size_t seg_len, double x, double y, double distance,
-                                        double tolerance, uint8_t *out, size_t out_len);
+                                        double tolerance, double line_limit, uint8_t *out, size_t out_len);
 
-/* The box: least x, least y, greatest x, greatest y: 4 numbers. 3, 1, 8. */
-uint8_t bf_seg_bounding_box(const double *seg, size_t seg_len, double *out, size_t out_len);
+/* The box: least x, least y, greatest x, greatest y: 4 numbers. 3, 1, 2, 8. */
+uint8_t bf_seg_bounding_box(const double *seg, size_t seg_len, double line_limit, double *out, size_t out_len);
 
-/* The midpoint: 2 numbers. 3, 1, 8. */
-uint8_t bf_seg_midpoint(const double *seg, size_t seg_len, double *out, size_t out_len);
+/* The midpoint: 2 numbers. 3, 1, 2, 8. */
+uint8_t bf_seg_midpoint(const double *seg, size_t seg_len, double line_limit, double *out, size_t out_len);
 
 /* The record of the view that starts at the vertex, on segment `start`, and ends at (x, y) on segment `intersect`, over
  * `traverse` vertices: 64 bytes, with cut number 0. `vertex` is 3 numbers. 3, 1, 2, 5, 4, 5, 8. */
 uint8_t bf_view_create(const double *outline, size_t outline_len, uint64_t start, double x, double y,
                        uint64_t intersect, const double *vertex, size_t vertex_len, uint64_t traverse,
-                       double tolerance, void *out, size_t out_len);
+                       double tolerance, double line_limit, void *out, size_t out_len);
 
 /* The record of the view round a closed outline from (x, y) on segment `start`: 64 bytes, with cut number 0. `closed` is 0
  * for an open outline, which is refused 10; any other number is for a closed one. 3, 1, 2, 10, 4, 8. */
 uint8_t bf_view_from_new_start(const double *outline, size_t outline_len, uint8_t closed, double x, double y,
-                               uint64_t start, double tolerance, void *out, size_t out_len);
+                               uint64_t start, double tolerance, double line_limit, void *out, size_t out_len);
 
 /* The verdict, a number of bf_verdict. `whole` gets 4 words: the verdict, for verdict 2 the offset and the vertex count,
  * else 0, 0, and how many square roots it took, at most 2: one for each point of the two that it tests, start and end, in
  * an arc's sweep, unless that is at the arc's start or end, to 0.001, or at its centre, to 0.00001; none on a line.
  * `out` gets 5 numbers, unused ones 0: for 3 the start point, for 4 the end point, for 5 the end point and the source
- * vertex, for 6 the end bulge and the start bulge. 11, 12, 3, 1, 4, 8. */
+ * vertex, for 6 the end bulge and the start bulge. 11, 12, 3, 1, 2, 4, 8. */
 uint8_t bf_view_validate(const double *outline, size_t outline_len, const void *record, size_t record_len,
-                         uint64_t *whole, size_t whole_len, double *out, size_t out_len);
+                         double line_limit, uint64_t *whole, size_t whole_len, double *out, size_t out_len);
 
 /* 1 for cut, where the verdict is BF_VALID, else 0 for hold: 1 byte. `closed` is 0 for an open outline, any other number
  * for a closed one. On an open outline a view whose start index plus offset is the vertex count less 1 or more is held too:
- * nothing runs from the last vertex back to the first. 11, 12, 3, 1, 4, 8. */
+ * nothing runs from the last vertex back to the first. 11, 12, 3, 1, 2, 4, 8. */
 uint8_t bf_view_mark(const double *outline, size_t outline_len, uint8_t closed, const void *record, size_t record_len,
-                     uint8_t *out, size_t out_len);
+                     double line_limit, uint8_t *out, size_t out_len);
 
 /* How many vertices the view has: 1 word. 11, 12, 3, 1, 5, 4, 8. */
 uint8_t bf_view_count(const double *outline, size_t outline_len, const void *record, size_t record_len, uint64_t *out,

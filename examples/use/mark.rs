@@ -17,6 +17,7 @@ extern "C" {
         closed: u8,
         record: *const Record,
         record_len: usize,
+        line_limit: f64,
         out: *mut u8,
         out_len: usize,
     ) -> u8;
@@ -34,6 +35,6 @@ fn main() {
         cut_number: 17,
     };
     let mut cut = 0;
-    let refusal = unsafe { bf_view_mark(outline.as_ptr(), 12, 1, &path, 64, &mut cut, 1) };
+    let refusal = unsafe { bf_view_mark(outline.as_ptr(), 12, 1, &path, 64, 1e-8, &mut cut, 1) };
     println!("{}", if refusal == 0 && cut == 1 { "cut" } else { "hold" });
 }

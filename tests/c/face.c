@@ -41,6 +41,13 @@ static const double Q[12] = {0, 0, 0, 4, 0, 0.5, 4, 4, 0, 0, 4, 0};
 /* Q with a last vertex that is not a number. */
 static const double BROKEN[12] = {0, 0, 0, 4, 0, 0.5, 4, 4, 0, NAN, 4, 0};
 
+/* An arc of bulge 1e-7, whose centre lies 10 km off, and one of bulge 1e-4, both from (0,0) to (4,0). */
+static const double TRACED[6] = {0, 0, 1e-7, 4, 0, 0};
+static const double FLAT[6] = {0, 0, 1e-4, 4, 0, 0};
+
+/* A square of side 40. Its first side is an arc of bulge 1e-4, and so bows out by 0.002. */
+static const double SQUARE[12] = {0, 0, 1e-4, 40, 0, 0, 40, 40, 0, 0, 40, 0};
+
 /* The half circle about (5,0) from (0,0) to (10,0), and the line back. */
 static const double ARCH[6] = {0, 0, 1, 10, 0, 0};
 
@@ -140,65 +147,65 @@ static void call_numbers(void)
 
 static void call_segments(void)
 {
-    say("P1", NUMBERS, 3, bf_seg_arc_radius_and_center(H, 6, numbers, 3));
-    say("circle of a line", NUMBERS, 3, bf_seg_arc_radius_and_center(LINE, 6, numbers, 3));
-    say("circle of 5 numbers", NUMBERS, 3, bf_seg_arc_radius_and_center(H, 5, numbers, 3));
+    say("P1", NUMBERS, 3, bf_seg_arc_radius_and_center(H, 6, BF_LINE_LIMIT, numbers, 3));
+    say("circle of a line", NUMBERS, 3, bf_seg_arc_radius_and_center(LINE, 6, BF_LINE_LIMIT, numbers, 3));
+    say("circle of 5 numbers", NUMBERS, 3, bf_seg_arc_radius_and_center(H, 5, BF_LINE_LIMIT, numbers, 3));
 
-    say("P6", NUMBERS, 6, bf_seg_split_at_point(H, 6, 3, 0, 1e-5, numbers, 6));
-    say("split in the middle", ROUGH, 6, bf_seg_split_at_point(H, 6, 0.5, -0.5, 1e-5, numbers, 6));
-    say("split off the arc", ROUGH, 6, bf_seg_split_at_point(BOWED, 6, -1, 1, 1e-5, numbers, 6));
-    say("second part split", ROUGH, 6, bf_seg_split_at_point(TURNED, 6, -1, 1, 1e-5, numbers, 6));
-    say("split, tolerance 0", NUMBERS, 6, bf_seg_split_at_point(H, 6, 3, 0, 0, numbers, 6));
+    say("P6", NUMBERS, 6, bf_seg_split_at_point(H, 6, 3, 0, 1e-5, BF_LINE_LIMIT, numbers, 6));
+    say("split in the middle", ROUGH, 6, bf_seg_split_at_point(H, 6, 0.5, -0.5, 1e-5, BF_LINE_LIMIT, numbers, 6));
+    say("split off the arc", ROUGH, 6, bf_seg_split_at_point(BOWED, 6, -1, 1, 1e-5, BF_LINE_LIMIT, numbers, 6));
+    say("second part split", ROUGH, 6, bf_seg_split_at_point(TURNED, 6, -1, 1, 1e-5, BF_LINE_LIMIT, numbers, 6));
+    say("split, tolerance 0", NUMBERS, 6, bf_seg_split_at_point(H, 6, 3, 0, 0, BF_LINE_LIMIT, numbers, 6));
 
-    say("P4", NUMBERS, 2, bf_seg_tangent_vector(G, 6, 3, 1, numbers, 2));
-    say("P5", NUMBERS, 2, bf_seg_tangent_vector(G, 6, 2, 2, numbers, 2));
-    say("tangent at infinity", NUMBERS, 2, bf_seg_tangent_vector(G, 6, INFINITY, 1, numbers, 2));
+    say("P4", NUMBERS, 2, bf_seg_tangent_vector(G, 6, 3, 1, BF_LINE_LIMIT, numbers, 2));
+    say("P5", NUMBERS, 2, bf_seg_tangent_vector(G, 6, 2, 2, BF_LINE_LIMIT, numbers, 2));
+    say("tangent at infinity", NUMBERS, 2, bf_seg_tangent_vector(G, 6, INFINITY, 1, BF_LINE_LIMIT, numbers, 2));
 
-    say("closest to (3,0)", NUMBERS, 2, bf_seg_closest_point(G, 6, 3, 0, 1e-5, numbers, 2));
-    say("closest to the centre", NUMBERS, 2, bf_seg_closest_point(H, 6, 0.5, 0, 1e-5, numbers, 2));
-    say("closest, tolerance 0", NUMBERS, 2, bf_seg_closest_point(H, 6, 0, 0, 0, numbers, 2));
+    say("closest to (3,0)", NUMBERS, 2, bf_seg_closest_point(G, 6, 3, 0, 1e-5, BF_LINE_LIMIT, numbers, 2));
+    say("closest to the centre", NUMBERS, 2, bf_seg_closest_point(H, 6, 0.5, 0, 1e-5, BF_LINE_LIMIT, numbers, 2));
+    say("closest, tolerance 0", NUMBERS, 2, bf_seg_closest_point(H, 6, 0, 0, 0, BF_LINE_LIMIT, numbers, 2));
 
-    say("over 0.5", BYTE, 1, bf_seg_distance_is_greater_than(H, 6, 0.5, 0, 0.5, 1e-5, bytes + shift, 1));
-    say("over 0.25", BYTE, 1, bf_seg_distance_is_greater_than(H, 6, 0.5, 0, 0.25, 1e-5, bytes + shift, 1));
-    say("over, tolerance 2", BYTE, 1, bf_seg_distance_is_greater_than(H, 6, 0.5, 0, 0.5, 2, bytes + shift, 1));
-    say("over, no room", BYTE, 1, bf_seg_distance_is_greater_than(H, 6, 0.5, 0, 0.5, 1e-5, bytes + shift, 0));
+    say("over 0.5", BYTE, 1, bf_seg_distance_is_greater_than(H, 6, 0.5, 0, 0.5, 1e-5, BF_LINE_LIMIT, bytes + shift, 1));
+    say("over 0.25", BYTE, 1, bf_seg_distance_is_greater_than(H, 6, 0.5, 0, 0.25, 1e-5, BF_LINE_LIMIT, bytes + shift, 1));
+    say("over, tolerance 2", BYTE, 1, bf_seg_distance_is_greater_than(H, 6, 0.5, 0, 0.5, 2, BF_LINE_LIMIT, bytes + shift, 1));
+    say("over, no room", BYTE, 1, bf_seg_distance_is_greater_than(H, 6, 0.5, 0, 0.5, 1e-5, BF_LINE_LIMIT, bytes + shift, 0));
 
-    say("P2 box", NUMBERS, 4, bf_seg_bounding_box(H, 6, numbers, 4));
-    say("box, slanted", NUMBERS, 4, bf_seg_bounding_box(SLANTED, 6, numbers, 4));
-    say("box of 7 numbers", NUMBERS, 4, bf_seg_bounding_box(Q, 7, numbers, 4));
-    say("box, room for 2", NUMBERS, 4, bf_seg_bounding_box(H, 6, numbers, 2));
+    say("P2 box", NUMBERS, 4, bf_seg_bounding_box(H, 6, BF_LINE_LIMIT, numbers, 4));
+    say("box, slanted", NUMBERS, 4, bf_seg_bounding_box(SLANTED, 6, BF_LINE_LIMIT, numbers, 4));
+    say("box of 7 numbers", NUMBERS, 4, bf_seg_bounding_box(Q, 7, BF_LINE_LIMIT, numbers, 4));
+    say("box, room for 2", NUMBERS, 4, bf_seg_bounding_box(H, 6, BF_LINE_LIMIT, numbers, 2));
 
-    say("P3", NUMBERS, 2, bf_seg_midpoint(H, 6, numbers, 2));
-    say("middle of a line", NUMBERS, 2, bf_seg_midpoint(LINE, 6, numbers, 2));
-    say("middle of no numbers", NUMBERS, 2, bf_seg_midpoint(H, 0, numbers, 2));
+    say("P3", NUMBERS, 2, bf_seg_midpoint(H, 6, BF_LINE_LIMIT, numbers, 2));
+    say("middle of a line", NUMBERS, 2, bf_seg_midpoint(LINE, 6, BF_LINE_LIMIT, numbers, 2));
+    say("middle of no numbers", NUMBERS, 2, bf_seg_midpoint(H, 0, BF_LINE_LIMIT, numbers, 2));
 }
 
 static void call_makers(void)
 {
     const double v[3] = {1, 0, 0};
     void *out = bytes + shift;
-    say("create R", RECORD, 0, bf_view_create(Q, 12, 0, 2, 4, 2, v, 3, 2, 1e-5, out, 64));
-    say("create to a vertex", RECORD, 0, bf_view_create(Q, 12, 0, 4, 4, 2, v, 3, 2, 1e-5, out, 64));
-    say("create over none", RECORD, 0, bf_view_create(Q, 12, 0, 2, 4, 2, v, 3, 0, 1e-5, out, 64));
-    say("create over 5", RECORD, 0, bf_view_create(Q, 12, 0, 2, 4, 2, v, 3, 5, 1e-5, out, 64));
-    say("create from 4", RECORD, 0, bf_view_create(Q, 12, 4, 2, 4, 2, v, 3, 2, 1e-5, out, 64));
-    say("create to 4", RECORD, 0, bf_view_create(Q, 12, 0, 2, 4, 4, v, 3, 2, 1e-5, out, 64));
-    say("create, tolerance 0", RECORD, 0, bf_view_create(Q, 12, 0, 2, 4, 2, v, 3, 2, 0, out, 64));
-    say("create, vertex of 2 numbers", RECORD, 0, bf_view_create(Q, 12, 0, 2, 4, 2, v, 2, 2, 1e-5, out, 64));
-    say("create, room for 63", RECORD, 0, bf_view_create(Q, 12, 0, 2, 4, 2, v, 3, 2, 1e-5, out, 63));
+    say("create R", RECORD, 0, bf_view_create(Q, 12, 0, 2, 4, 2, v, 3, 2, 1e-5, BF_LINE_LIMIT, out, 64));
+    say("create to a vertex", RECORD, 0, bf_view_create(Q, 12, 0, 4, 4, 2, v, 3, 2, 1e-5, BF_LINE_LIMIT, out, 64));
+    say("create over none", RECORD, 0, bf_view_create(Q, 12, 0, 2, 4, 2, v, 3, 0, 1e-5, BF_LINE_LIMIT, out, 64));
+    say("create over 5", RECORD, 0, bf_view_create(Q, 12, 0, 2, 4, 2, v, 3, 5, 1e-5, BF_LINE_LIMIT, out, 64));
+    say("create from 4", RECORD, 0, bf_view_create(Q, 12, 4, 2, 4, 2, v, 3, 2, 1e-5, BF_LINE_LIMIT, out, 64));
+    say("create to 4", RECORD, 0, bf_view_create(Q, 12, 0, 2, 4, 4, v, 3, 2, 1e-5, BF_LINE_LIMIT, out, 64));
+    say("create, tolerance 0", RECORD, 0, bf_view_create(Q, 12, 0, 2, 4, 2, v, 3, 2, 0, BF_LINE_LIMIT, out, 64));
+    say("create, vertex of 2 numbers", RECORD, 0, bf_view_create(Q, 12, 0, 2, 4, 2, v, 2, 2, 1e-5, BF_LINE_LIMIT, out, 64));
+    say("create, room for 63", RECORD, 0, bf_view_create(Q, 12, 0, 2, 4, 2, v, 3, 2, 1e-5, BF_LINE_LIMIT, out, 63));
 
-    say("new start (2,0)", RECORD, 0, bf_view_from_new_start(Q, 12, 1, 2, 0, 0, 1e-5, out, 64));
-    say("new start, closed 255", RECORD, 0, bf_view_from_new_start(Q, 12, 255, 2, 0, 0, 1e-5, out, 64));
-    say("new start (4,0)", RECORD, 0, bf_view_from_new_start(Q, 12, 1, 4, 0, 0, 1e-5, out, 64));
-    say("new start, open", RECORD, 0, bf_view_from_new_start(Q, 12, 0, 2, 0, 0, 1e-5, out, 64));
-    say("new start on 4", RECORD, 0, bf_view_from_new_start(Q, 12, 1, 2, 0, 4, 1e-5, out, 64));
-    say("new start, tolerance NaN", RECORD, 0, bf_view_from_new_start(Q, 12, 1, 2, 0, 0, NAN, out, 64));
-    say("new start, room for 63", RECORD, 0, bf_view_from_new_start(Q, 12, 1, 2, 0, 0, 1e-5, out, 63));
+    say("new start (2,0)", RECORD, 0, bf_view_from_new_start(Q, 12, 1, 2, 0, 0, 1e-5, BF_LINE_LIMIT, out, 64));
+    say("new start, closed 255", RECORD, 0, bf_view_from_new_start(Q, 12, 255, 2, 0, 0, 1e-5, BF_LINE_LIMIT, out, 64));
+    say("new start (4,0)", RECORD, 0, bf_view_from_new_start(Q, 12, 1, 4, 0, 0, 1e-5, BF_LINE_LIMIT, out, 64));
+    say("new start, open", RECORD, 0, bf_view_from_new_start(Q, 12, 0, 2, 0, 0, 1e-5, BF_LINE_LIMIT, out, 64));
+    say("new start on 4", RECORD, 0, bf_view_from_new_start(Q, 12, 1, 2, 0, 4, 1e-5, BF_LINE_LIMIT, out, 64));
+    say("new start, tolerance NaN", RECORD, 0, bf_view_from_new_start(Q, 12, 1, 2, 0, 0, NAN, BF_LINE_LIMIT, out, 64));
+    say("new start, room for 63", RECORD, 0, bf_view_from_new_start(Q, 12, 1, 2, 0, 0, 1e-5, BF_LINE_LIMIT, out, 63));
 }
 
 static uint8_t validate(const double *outline, size_t outline_len, const void *record)
 {
-    return bf_view_validate(outline, outline_len, record, 64, words, 4, numbers, 5);
+    return bf_view_validate(outline, outline_len, record, 64, BF_LINE_LIMIT, words, 4, numbers, 5);
 }
 
 static void call_judges(void)
@@ -225,21 +232,80 @@ static void call_judges(void)
     say("R on a broken outline", VERDICT, 0, validate(BROKEN, 12, at(&R)));
     say("R from 4", VERDICT, 0, validate(Q, 12, marked(4, 0, 0)));
     say("R of direction 2", VERDICT, 0, validate(Q, 12, marked(0, 2, 0)));
-    say("R of 63 bytes", VERDICT, 0, bf_view_validate(Q, 12, at(&R), 63, words, 4, numbers, 5));
-    say("R, room for 3 words", VERDICT, 0, bf_view_validate(Q, 12, at(&R), 64, words, 3, numbers, 5));
-    say("R, room for 4 numbers", VERDICT, 0, bf_view_validate(Q, 12, at(&R), 64, words, 4, numbers, 4));
+    say("R of 63 bytes", VERDICT, 0, bf_view_validate(Q, 12, at(&R), 63, BF_LINE_LIMIT, words, 4, numbers, 5));
+    say("R, room for 3 words", VERDICT, 0, bf_view_validate(Q, 12, at(&R), 64, BF_LINE_LIMIT, words, 3, numbers, 5));
+    say("R, room for 4 numbers", VERDICT, 0, bf_view_validate(Q, 12, at(&R), 64, BF_LINE_LIMIT, words, 4, numbers, 4));
 
-    say("mark R", BYTE, 1, bf_view_mark(Q, 12, 1, at(&R), 64, out, 1));
-    say("mark R, open", BYTE, 1, bf_view_mark(Q, 12, 0, at(&R), 64, out, 1));
-    say("mark R to (5,2) on the arc", BYTE, 1, bf_view_mark(Q, 12, 1, altered(1, 5, 2, 0.236), 64, out, 1));
-    say("mark R over the last side", BYTE, 1, bf_view_mark(Q, 12, 1, altered(3, 0, 2, 0), 64, out, 1));
-    say("the same, closed 255", BYTE, 1, bf_view_mark(Q, 12, 255, at(&r), 64, out, 1));
-    say("the same, open", BYTE, 1, bf_view_mark(Q, 12, 0, at(&r), 64, out, 1));
+    say("mark R", BYTE, 1, bf_view_mark(Q, 12, 1, at(&R), 64, BF_LINE_LIMIT, out, 1));
+    say("mark R, open", BYTE, 1, bf_view_mark(Q, 12, 0, at(&R), 64, BF_LINE_LIMIT, out, 1));
+    say("mark R to (5,2) on the arc", BYTE, 1, bf_view_mark(Q, 12, 1, altered(1, 5, 2, 0.236), 64, BF_LINE_LIMIT, out, 1));
+    say("mark R over the last side", BYTE, 1, bf_view_mark(Q, 12, 1, altered(3, 0, 2, 0), 64, BF_LINE_LIMIT, out, 1));
+    say("the same, closed 255", BYTE, 1, bf_view_mark(Q, 12, 255, at(&r), 64, BF_LINE_LIMIT, out, 1));
+    say("the same, open", BYTE, 1, bf_view_mark(Q, 12, 0, at(&r), 64, BF_LINE_LIMIT, out, 1));
     r.inverted_direction = 1;
-    say("the same, turned round", BYTE, 1, bf_view_mark(Q, 12, 0, at(&r), 64, out, 1));
-    say("mark P11", BYTE, 1, bf_view_mark(Q, 12, 1, altered(2, 4, 4, 0), 64, out, 1));
-    say("mark, cut number 1", BYTE, 1, bf_view_mark(Q, 12, 1, marked(0, 0, 1), 64, out, 1));
-    say("mark, no room", BYTE, 1, bf_view_mark(Q, 12, 1, at(&R), 64, out, 0));
+    say("the same, turned round", BYTE, 1, bf_view_mark(Q, 12, 0, at(&r), 64, BF_LINE_LIMIT, out, 1));
+    say("mark P11", BYTE, 1, bf_view_mark(Q, 12, 1, altered(2, 4, 4, 0), 64, BF_LINE_LIMIT, out, 1));
+    say("mark, cut number 1", BYTE, 1, bf_view_mark(Q, 12, 1, marked(0, 0, 1), 64, BF_LINE_LIMIT, out, 1));
+    say("mark, no room", BYTE, 1, bf_view_mark(Q, 12, 1, at(&R), 64, BF_LINE_LIMIT, out, 0));
+}
+
+static uint8_t validate_at(double line_limit, size_t outline_len, const bf_record *record)
+{
+    return bf_view_validate(SQUARE, outline_len, at(record), 64, line_limit, words, 4, numbers, 5);
+}
+
+/* Each call at a limit by which it takes an arc for a line, and where that limit is refused. */
+static void call_limits(void)
+{
+    const double v[3] = {0, 20, 0}, wide[6] = {0, 0, 1.5, 4, 0, 0};
+    const double unit[6] = {0, 0, 0, 1, 0, 0}, small[6] = {0, 0, 1, 1e-6, 0, 0};
+    const double over = nextafter(1e-3, 1), under = nextafter(1e-8, 0);
+    const bf_record chord = {0, 1, {20, 0, 0}, 0, {40, 20}, 0, 0};
+    void *out = bytes + shift;
+    unsigned char *byte = bytes + shift;
+    say("circle of a traced arc", ROUGH, 3, bf_seg_arc_radius_and_center(TRACED, 6, 1e-8, numbers, 3));
+    say("the same, limit 1e-6", ROUGH, 3, bf_seg_arc_radius_and_center(TRACED, 6, 1e-6, numbers, 3));
+    say("the same, limit 1e-7", ROUGH, 3, bf_seg_arc_radius_and_center(TRACED, 6, 1e-7, numbers, 3));
+    say("ends 1e-6 apart, limit 1e-3", ROUGH, 3, bf_seg_arc_radius_and_center(small, 6, 1e-3, numbers, 3));
+    say("circle of a line, limit NaN", NUMBERS, 3, bf_seg_arc_radius_and_center(LINE, 6, NAN, numbers, 3));
+
+    say("split of a flat arc", ROUGH, 6, bf_seg_split_at_point(FLAT, 6, 2, 0, 1e-5, 1e-8, numbers, 6));
+    say("the same, limit 1e-3", ROUGH, 6, bf_seg_split_at_point(FLAT, 6, 2, 0, 1e-5, 1e-3, numbers, 6));
+    say("the same, limit over 1e-3", ROUGH, 6, bf_seg_split_at_point(FLAT, 6, 2, 0, 1e-5, over, numbers, 6));
+
+    say("tangent of a traced arc", ROUGH, 2, bf_seg_tangent_vector(TRACED, 6, 2, 0, 1e-8, numbers, 2));
+    say("the same, limit 1e-6", NUMBERS, 2, bf_seg_tangent_vector(TRACED, 6, 2, 0, 1e-6, numbers, 2));
+    say("the same, limit under 1e-8", NUMBERS, 2, bf_seg_tangent_vector(TRACED, 6, 2, 0, under, numbers, 2));
+
+    say("closest on a traced arc", ROUGH, 2, bf_seg_closest_point(TRACED, 6, 1, 1, 1e-5, 1e-8, numbers, 2));
+    say("the same, limit 1e-6", NUMBERS, 2, bf_seg_closest_point(TRACED, 6, 1, 1, 1e-5, 1e-6, numbers, 2));
+    say("1e-7 along a line, limit 1e-3", NUMBERS, 2, bf_seg_closest_point(unit, 6, 1e-7, 1, 1e-5, 1e-3, numbers, 2));
+    say("closest, limit 0", NUMBERS, 2, bf_seg_closest_point(TRACED, 6, 1, 1, 1e-5, 0, numbers, 2));
+
+    say("over 1e-7", BYTE, 1, bf_seg_distance_is_greater_than(TRACED, 6, 2, 0, 1e-7, 1e-5, 1e-8, byte, 1));
+    say("the same, limit 1e-6", BYTE, 1, bf_seg_distance_is_greater_than(TRACED, 6, 2, 0, 1e-7, 1e-5, 1e-6, byte, 1));
+    say("the same, limit 1", BYTE, 1, bf_seg_distance_is_greater_than(TRACED, 6, 2, 0, 1e-7, 1e-5, 1, byte, 1));
+
+    say("box of a traced arc", ROUGH, 4, bf_seg_bounding_box(TRACED, 6, 1e-8, numbers, 4));
+    say("the same, limit 1e-6", NUMBERS, 4, bf_seg_bounding_box(TRACED, 6, 1e-6, numbers, 4));
+    say("the same, limit -1e-6", NUMBERS, 4, bf_seg_bounding_box(TRACED, 6, -1e-6, numbers, 4));
+
+    say("middle of a traced arc", ROUGH, 2, bf_seg_midpoint(TRACED, 6, 1e-8, numbers, 2));
+    say("the same, limit 1e-6", NUMBERS, 2, bf_seg_midpoint(TRACED, 6, 1e-6, numbers, 2));
+    say("bulge 1.5, limit 0", NUMBERS, 2, bf_seg_midpoint(wide, 6, 0, numbers, 2));
+    say("limit 0, no room", NUMBERS, 2, bf_seg_midpoint(TRACED, 6, 0, numbers, 0));
+
+    say("create to a flat arc", RECORD, 0, bf_view_create(SQUARE, 12, 3, 20, 0, 0, v, 3, 1, 1e-5, 1e-3, out, 64));
+    say("create over none, limit 0", RECORD, 0, bf_view_create(SQUARE, 12, 3, 20, 0, 0, v, 3, 0, 1e-5, 0, out, 64));
+    say("new start on a flat arc", RECORD, 0, bf_view_from_new_start(SQUARE, 12, 1, 20, 0, 0, 1e-5, 1e-3, out, 64));
+    say("new start, open, limit 0", RECORD, 0, bf_view_from_new_start(SQUARE, 12, 0, 20, 0, 0, 1e-5, 0, out, 64));
+
+    say("view from its chord", VERDICT, 0, validate_at(1e-8, 12, &chord));
+    say("the same, limit 1e-3", VERDICT, 0, validate_at(1e-3, 12, &chord));
+    say("no vertices, limit over 1e-3", VERDICT, 0, validate_at(over, 0, &chord));
+    say("mark of that view", BYTE, 1, bf_view_mark(SQUARE, 12, 1, at(&chord), 64, 1e-8, byte, 1));
+    say("the same, limit 1e-3", BYTE, 1, bf_view_mark(SQUARE, 12, 1, at(&chord), 64, 1e-3, byte, 1));
+    say("no vertices, limit NaN", BYTE, 1, bf_view_mark(SQUARE, 0, 1, at(&chord), 64, NAN, byte, 1));
 }
 
 static uint8_t list(const double *outline, size_t outline_len, const void *record)
@@ -296,6 +362,7 @@ static void call_all(void)
     call_segments();
     call_makers();
     call_judges();
+    call_limits();
     call_readers();
     call_steps();
     said.done = 1;
