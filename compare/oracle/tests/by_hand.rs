@@ -587,6 +587,20 @@ fn the_limit_in_its_order() {
     );
     assert_eq!(radius(&line[..5], bad), Some(3));
 
+    let far = Vector2::new(0.0, 1e7);
+    let split = segment::seg_split_at_point(&H, far, 1e-5, bad);
+    assert_eq!(split.err(), Some(1));
+    assert_eq!(segment::seg_tangent_vector(&H, far, bad), Err(1));
+    assert_eq!(segment::seg_closest_point(&H, far, 1e-5, bad), Err(1));
+    let farther =
+        |p, distance| segment::seg_distance_is_greater_than(&H, p, distance, 1e-5, bad).err();
+    assert_eq!(
+        (farther(far, 1.0), farther(ORIGIN, 1e7)),
+        (Some(1), Some(1))
+    );
+    let start = view::from_new_start(&Q, true, far, 0, 1e-5, bad);
+    assert_eq!(start.err(), Some(1));
+
     let p = Vector2::new(2.0, 0.0);
     let start = |closed, limit| view::from_new_start(&Q, closed, p, 0, 1e-5, limit).err();
     assert_eq!((start(false, 1e-3), start(false, bad)), (Some(10), Some(2)));
