@@ -177,13 +177,10 @@ impl Case {
 impl Case {
     /// Its place among the words: before the answer's buffers, of which validation has two.
     fn limit_place(&self) -> Option<usize> {
-        let buffers = if self.call == Call::ViewValidate {
-            2
-        } else {
-            1
-        };
-        let place = self.words.len() - buffers - 1;
-        self.call.takes_limit().then_some(place)
+        let validation = self.call == Call::ViewValidate;
+        let behind = if validation { 2 } else { 1 };
+        let takes_limit = self.call.takes_limit();
+        takes_limit.then(|| self.words.len() - 1 - behind)
     }
 
     pub fn limit(&self) -> Option<f64> {
@@ -198,7 +195,7 @@ impl Case {
         case
     }
 
-    /// Whether the call looks at a segment that is an arc at the default limit and a line at its own.
+    /// Whether the call is about a segment that is an arc at the default limit and a line at its own.
     pub fn straightened(&self) -> bool {
         let Some(limit) = self.limit() else {
             return false;
@@ -207,7 +204,7 @@ impl Case {
         self.bulges().iter().any(straightened)
     }
 
-    /// The bulges of the segments that the call looks at.
+    /// The bulges of the segments that the call is about.
     fn bulges(&self) -> Vec<f64> {
         let mut a = Arguments(&self.words);
         let numbers = a.numbers();

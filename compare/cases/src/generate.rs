@@ -486,25 +486,31 @@ impl Generator {
         [v1[0], v1[1], v1[2], v2[0], v2[1], v2[2]]
     }
 
-    /// A record made as the text makes them, from an outline of at least two vertices.
+    /// A record made as the text makes them, from an outline of at least two vertices. At the case's own limit or at the
+    /// default one: what lies on an arc may be off the line that the limit makes of it, and what lies on the line off the arc.
     fn made_record(&mut self, outline: &[f64]) -> Option<PlineViewData> {
+        let limit = if self.limit != LINE_LIMIT && self.random.chance(50) {
+            self.limit
+        } else {
+            LINE_LIMIT
+        };
         let count = outline.len() / 3;
         let eps = self.random.pick(&[1e-5, 1e-5, 1e-8, 1e-3]);
         let anywhere = self.random.below(count);
         let start = self.random.pick(&[0, count - 1, anywhere, anywhere]);
         let seg = Self::segment_at(outline, start);
-        let p = self.point_on(&seg);
+        let p = self.point_on(&seg, limit);
         if self.random.chance(25) {
-            return view::from_new_start(outline, true, p, start as u64, eps, LINE_LIMIT).ok();
+            return view::from_new_start(outline, true, p, start as u64, eps, limit).ok();
         }
 
-        let split = segment::seg_split_at_point(&seg, p, eps, LINE_LIMIT).ok()?;
+        let split = segment::seg_split_at_point(&seg, p, eps, limit).ok()?;
         let from = split.split_vertex;
         if self.random.chance(30) {
             // On one segment: the rest of it is split once more.
             let rest = [from.x, from.y, from.bulge, seg[3], seg[4], seg[5]];
-            let end = self.point_on(&rest);
-            let again = segment::seg_split_at_point(&rest, end, eps, LINE_LIMIT).ok()?;
+            let end = self.point_on(&rest, limit);
+            let again = segment::seg_split_at_point(&rest, end, eps, limit).ok()?;
             return Some(PlineViewData {
                 start_index: start,
                 end_index_offset: 0,
@@ -520,17 +526,14 @@ impl Generator {
             .random
             .pick(&[traverse, traverse, 1, count - 1, count, count + 1]);
         let last = (start + traverse) % count;
-        let end = self.point_on(&Self::segment_at(outline, last));
+        let end = self.point_on(&Self::segment_at(outline, last), limit);
         let vertex = [from.x, from.y, from.bulge];
         let (start, last, traverse) = (start as u64, last as u64, traverse as u64);
-        view::create(
-            outline, start, end, last, &vertex, traverse, eps, LINE_LIMIT,
-        )
-        .ok()
+        view::create(outline, start, end, last, &vertex, traverse, eps, limit).ok()
     }
 
     /// A point on a segment, with no nudge.
-    fn point_on(&mut self, seg: &[f64; 6]) -> Vector2 {
+    fn point_on(&mut self, seg: &[f64; 6], limit: f64) -> Vector2 {
         let start = Vector2::new(seg[0], seg[1]);
         let chord = Vector2::new(seg[3], seg[4]) - start;
         let part = if self.random.chance(50) {
@@ -541,7 +544,7 @@ impl Generator {
         let p = start + chord.scale(part);
         // Off the chord, to the arc's side, so that the closest point lies on the arc.
         let p = p + chord.perp().scale(-0.125 * seg[2]);
-        segment::seg_closest_point(seg, p, 1e-8, LINE_LIMIT).unwrap_or(start)
+        segment::seg_closest_point(seg, p, 1e-8, limit).unwrap_or(start)
     }
 
     /// A record with anything in it.

@@ -18,7 +18,7 @@ pub struct Report {
     verdicts: [u64; 8],
     roots: [u64; 3],
     /// For each call that takes a line limit, how often it had the default one, how often another in range, and how often
-    /// it looked at what is an arc at the default and a line at its own.
+    /// it answered about what is an arc at the default and a line at its own.
     limits: [[u64; 3]; 19],
     /// How often each kind of line stood in its sheets.
     lines: BTreeMap<String, u64>,
@@ -84,9 +84,9 @@ impl Report {
             let at_limit = &mut self.limits[case.call as usize];
             at_limit[0] += u64::from(limit == LINE_LIMIT);
             at_limit[1] += u64::from(limit > LINE_LIMIT && limit <= 1e-3);
-            // Refusal 6 says what is no arc.
-            let looked = matches!(expected.refusal, 0 | 6);
-            at_limit[2] += u64::from(looked && case.straightened());
+            // Refusal 6 is such an answer too.
+            let answered = matches!(expected.refusal, 0 | 6);
+            at_limit[2] += u64::from(answered && case.straightened());
         }
         let equal = expected == found;
         if !equal {
@@ -115,7 +115,7 @@ impl Report {
     }
 
     /// The refusals, answers, verdicts and lines that document 01 names and no case reached, and those reached that
-    /// it does not name.
+    /// it does not name; the calls that met no default line limit, no other, or no arc that theirs makes a line.
     pub fn gaps(&self) -> Vec<String> {
         let mut gaps = Vec::new();
         for call in Call::ALL {

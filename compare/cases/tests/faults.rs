@@ -73,6 +73,7 @@ enum Fault {
     LeastLimitRefused,
     NanLimitAccepted,
     LimitRefusedBeforeNumber,
+    LimitRefusedBeforePoint,
     LimitRefusedAfterNoArc,
     LimitRefusedAfterOpen,
     LimitRefusedAfterTraverse,
@@ -283,6 +284,10 @@ impl Library for Spoilt {
             return 2;
         }
         let refusal = Oracle.seg_closest_point(seg, x, y, tolerance, line_limit, out);
+        let sound = oracle::segment::seg_midpoint(seg, LINE_LIMIT).is_ok();
+        if self.misplaces(Fault::LimitRefusedBeforePoint, line_limit) && refusal == 1 && sound {
+            return 2;
+        }
         if refusal == 0
             && self.is(Fault::LimitInALinesEndTest)
             && let Some(end) = end_by_limit(seg, x, y, line_limit)
@@ -701,6 +706,7 @@ fn each_fault_is_found() {
         Fault::LeastLimitRefused,
         Fault::NanLimitAccepted,
         Fault::LimitRefusedBeforeNumber,
+        Fault::LimitRefusedBeforePoint,
         Fault::LimitRefusedAfterNoArc,
         Fault::LimitRefusedAfterOpen,
         Fault::LimitRefusedAfterTraverse,
