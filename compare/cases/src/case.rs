@@ -14,17 +14,17 @@
 //! |---|---|
 //! | 1 sqrt | x, out |
 //! | 2 vertex | numbers.., out |
-//! | 3 seg_arc_radius_and_center | seg.., out |
-//! | 4 seg_split_at_point | seg.., x, y, tolerance, out |
-//! | 5 seg_tangent_vector | seg.., x, y, out |
-//! | 6 seg_closest_point | seg.., x, y, tolerance, out |
-//! | 7 seg_distance_is_greater_than | seg.., x, y, distance, tolerance, out |
-//! | 8 seg_bounding_box | seg.., out |
-//! | 9 seg_midpoint | seg.., out |
-//! | 10 view_create | outline.., start, x, y, intersect, vertex.., traverse, tolerance, out |
-//! | 11 view_from_new_start | outline.., closed, x, y, start, tolerance, out |
-//! | 12 view_validate | outline.., record.., whole, out |
-//! | 13 view_mark | outline.., closed, record.., out |
+//! | 3 seg_arc_radius_and_center | seg.., line_limit, out |
+//! | 4 seg_split_at_point | seg.., x, y, tolerance, line_limit, out |
+//! | 5 seg_tangent_vector | seg.., x, y, line_limit, out |
+//! | 6 seg_closest_point | seg.., x, y, tolerance, line_limit, out |
+//! | 7 seg_distance_is_greater_than | seg.., x, y, distance, tolerance, line_limit, out |
+//! | 8 seg_bounding_box | seg.., line_limit, out |
+//! | 9 seg_midpoint | seg.., line_limit, out |
+//! | 10 view_create | outline.., start, x, y, intersect, vertex.., traverse, tolerance, line_limit, out |
+//! | 11 view_from_new_start | outline.., closed, x, y, start, tolerance, line_limit, out |
+//! | 12 view_validate | outline.., record.., line_limit, whole, out |
+//! | 13 view_mark | outline.., closed, record.., line_limit, out |
 //! | 14 view_count | outline.., record.., out |
 //! | 15 view_get | outline.., record.., position, out |
 //! | 16 view_list | outline.., record.., out, count |
@@ -37,7 +37,8 @@
 //! order of the arguments, each after a space as 16 hex digits. Numbers are their bits, 64 bytes of a record are 8
 //! little-endian words, a single byte is one word.
 
-use oracle::Library;
+use oracle::record::decode;
+use oracle::{LINE_LIMIT, Library, PlineViewData};
 use std::fmt;
 
 #[derive(Debug, Clone, Copy, PartialEq, Eq)]
@@ -88,20 +89,26 @@ impl Call {
     pub fn refusals(self) -> &'static [u8] {
         match self {
             Call::Sqrt => &[0, 1, 8],
-            Call::SegArcRadiusAndCenter => &[0, 1, 3, 6, 8],
-            Call::Vertex | Call::SegTangentVector | Call::SegBoundingBox | Call::SegMidpoint => {
-                &[0, 1, 3, 8]
-            }
-            Call::SegSplitAtPoint | Call::SegClosestPoint | Call::SegDistanceIsGreaterThan => {
-                &[0, 1, 2, 3, 8]
-            }
+            Call::Vertex => &[0, 1, 3, 8],
+            Call::SegArcRadiusAndCenter => &[0, 1, 2, 3, 6, 8],
+            Call::SegSplitAtPoint
+            | Call::SegTangentVector
+            | Call::SegClosestPoint
+            | Call::SegDistanceIsGreaterThan
+            | Call::SegBoundingBox
+            | Call::SegMidpoint => &[0, 1, 2, 3, 8],
             Call::ViewCreate => &[0, 1, 2, 3, 4, 5, 8],
             Call::ViewFromNewStart => &[0, 1, 2, 3, 4, 8, 10],
-            Call::ViewValidate | Call::ViewMark => &[0, 1, 3, 4, 8, 11, 12],
+            Call::ViewValidate | Call::ViewMark => &[0, 1, 2, 3, 4, 8, 11, 12],
             Call::ViewCount | Call::ViewGet | Call::ViewList => &[0, 1, 3, 4, 5, 8, 11, 12],
             Call::ViewReverse => &[0, 1, 3, 4, 5, 7, 8, 11, 12],
             Call::ViewTrim => &[0, 1, 3, 4, 5, 7, 8, 9, 11, 12],
         }
+    }
+
+    /// Whether the call takes a line limit.
+    pub fn takes_limit(self) -> bool {
+        (Call::SegArcRadiusAndCenter as usize..=Call::ViewMark as usize).contains(&(self as usize))
     }
 
     /// The places that an answer takes in its buffers of numbers, whole numbers and bytes, the list's aside.
@@ -163,6 +170,62 @@ impl Case {
 
     pub fn room(self, places: usize) -> Self {
         self.whole(places as u64)
+    }
+}
+
+// The line limit of a case, for a call that takes one.
+impl Case {
+    /// Its place among the words: before the answer's buffers, of which validation has two.
+    fn limit_place(&self) -> Option<usize> {
+        let validation = self.call == Call::ViewValidate;
+        let behind = if validation { 2 } else { 1 };
+        let takes_limit = self.call.takes_limit();
+        takes_limit.then(|| self.words.len() - 1 - behind)
+    }
+
+    pub fn limit(&self) -> Option<f64> {
+        Some(f64::from_bits(self.words[self.limit_place()?]))
+    }
+
+    /// The same case at another limit.
+    pub fn at_limit(&self, limit: f64) -> Self {
+        let mut case = self.clone();
+        let place = case.limit_place().expect("the call takes a limit");
+        case.words[place] = limit.to_bits();
+        case
+    }
+
+    /// Whether the call is about a segment that is an arc at the default limit and a line at its own.
+    pub fn straightened(&self) -> bool {
+        let Some(limit) = self.limit() else {
+            return false;
+        };
+        let straightened = |bulge: &f64| bulge.abs() >= LINE_LIMIT && bulge.abs() < limit;
+        self.bulges().iter().any(straightened)
+    }
+
+    /// The bulges of the segments that the call is about.
+    fn bulges(&self) -> Vec<f64> {
+        let mut a = Arguments(&self.words);
+        let numbers = a.numbers();
+        let segments = match self.call {
+            // The fourth word behind the outline: the segment of the intersection, or of the new start.
+            Call::ViewCreate | Call::ViewFromNewStart => vec![a.0[3] as usize],
+            Call::ViewValidate | Call::ViewMark => {
+                if self.call == Call::ViewMark {
+                    a.byte();
+                }
+                let count = (numbers.len() / 3).max(1);
+                let of = |record: PlineViewData| {
+                    let start = record.start_index;
+                    vec![start, (start + record.end_index_offset) % count]
+                };
+                decode(&a.bytes()).map(of).unwrap_or_default()
+            }
+            _ => vec![0],
+        };
+        let bulge = |segment| Some(numbers.chunks_exact(3).nth(segment)?[2]);
+        segments.into_iter().filter_map(bulge).collect()
     }
 }
 
@@ -360,45 +423,56 @@ impl Case {
                 library.vertex(&slice, numbers.lend())
             }
             Call::SegArcRadiusAndCenter => {
-                let seg = a.numbers();
+                let (seg, line_limit) = (a.numbers(), a.number());
                 *numbers = a.room(number_pattern);
-                library.seg_arc_radius_and_center(&seg, numbers.lend())
+                library.seg_arc_radius_and_center(&seg, line_limit, numbers.lend())
             }
             Call::SegSplitAtPoint => {
-                let (seg, x, y, tolerance) = (a.numbers(), a.number(), a.number(), a.number());
+                let (seg, x, y) = (a.numbers(), a.number(), a.number());
+                let (tolerance, line_limit) = (a.number(), a.number());
                 *numbers = a.room(number_pattern);
-                library.seg_split_at_point(&seg, x, y, tolerance, numbers.lend())
+                library.seg_split_at_point(&seg, x, y, tolerance, line_limit, numbers.lend())
             }
             Call::SegTangentVector => {
-                let (seg, x, y) = (a.numbers(), a.number(), a.number());
+                let (seg, x, y, line_limit) = (a.numbers(), a.number(), a.number(), a.number());
                 *numbers = a.room(number_pattern);
-                library.seg_tangent_vector(&seg, x, y, numbers.lend())
+                library.seg_tangent_vector(&seg, x, y, line_limit, numbers.lend())
             }
             Call::SegClosestPoint => {
-                let (seg, x, y, tolerance) = (a.numbers(), a.number(), a.number(), a.number());
+                let (seg, x, y) = (a.numbers(), a.number(), a.number());
+                let (tolerance, line_limit) = (a.number(), a.number());
                 *numbers = a.room(number_pattern);
-                library.seg_closest_point(&seg, x, y, tolerance, numbers.lend())
+                library.seg_closest_point(&seg, x, y, tolerance, line_limit, numbers.lend())
             }
             Call::SegDistanceIsGreaterThan => {
                 let (seg, x, y) = (a.numbers(), a.number(), a.number());
-                let (distance, tolerance) = (a.number(), a.number());
+                let (distance, tolerance, line_limit) = (a.number(), a.number(), a.number());
                 *bytes = a.room(byte_pattern);
-                library.seg_distance_is_greater_than(&seg, x, y, distance, tolerance, bytes.lend())
+                library.seg_distance_is_greater_than(
+                    &seg,
+                    x,
+                    y,
+                    distance,
+                    tolerance,
+                    line_limit,
+                    bytes.lend(),
+                )
             }
             Call::SegBoundingBox => {
-                let seg = a.numbers();
+                let (seg, line_limit) = (a.numbers(), a.number());
                 *numbers = a.room(number_pattern);
-                library.seg_bounding_box(&seg, numbers.lend())
+                library.seg_bounding_box(&seg, line_limit, numbers.lend())
             }
             Call::SegMidpoint => {
-                let seg = a.numbers();
+                let (seg, line_limit) = (a.numbers(), a.number());
                 *numbers = a.room(number_pattern);
-                library.seg_midpoint(&seg, numbers.lend())
+                library.seg_midpoint(&seg, line_limit, numbers.lend())
             }
             Call::ViewCreate => {
                 let (outline, start) = (a.numbers(), a.whole());
                 let (x, y, intersect) = (a.number(), a.number(), a.whole());
-                let (vertex, traverse, tolerance) = (a.numbers(), a.whole(), a.number());
+                let (vertex, traverse) = (a.numbers(), a.whole());
+                let (tolerance, line_limit) = (a.number(), a.number());
                 *bytes = a.room(byte_pattern);
                 library.view_create(
                     &outline,
@@ -409,25 +483,37 @@ impl Case {
                     &vertex,
                     traverse,
                     tolerance,
+                    line_limit,
                     bytes.lend(),
                 )
             }
             Call::ViewFromNewStart => {
                 let (outline, closed) = (a.numbers(), a.byte());
-                let (x, y, start, tolerance) = (a.number(), a.number(), a.whole(), a.number());
+                let (x, y, start) = (a.number(), a.number(), a.whole());
+                let (tolerance, line_limit) = (a.number(), a.number());
                 *bytes = a.room(byte_pattern);
-                library.view_from_new_start(&outline, closed, x, y, start, tolerance, bytes.lend())
+                library.view_from_new_start(
+                    &outline,
+                    closed,
+                    x,
+                    y,
+                    start,
+                    tolerance,
+                    line_limit,
+                    bytes.lend(),
+                )
             }
             Call::ViewValidate => {
-                let (outline, record) = (a.numbers(), a.bytes());
+                let (outline, record, line_limit) = (a.numbers(), a.bytes(), a.number());
                 *wholes = a.room(whole_pattern);
                 *numbers = a.room(number_pattern);
-                library.view_validate(&outline, &record, wholes.lend(), numbers.lend())
+                library.view_validate(&outline, &record, line_limit, wholes.lend(), numbers.lend())
             }
             Call::ViewMark => {
-                let (outline, closed, record) = (a.numbers(), a.byte(), a.bytes());
+                let (outline, closed) = (a.numbers(), a.byte());
+                let (record, line_limit) = (a.bytes(), a.number());
                 *bytes = a.room(byte_pattern);
-                library.view_mark(&outline, closed, &record, bytes.lend())
+                library.view_mark(&outline, closed, &record, line_limit, bytes.lend())
             }
             Call::ViewCount => {
                 let (outline, record) = (a.numbers(), a.bytes());

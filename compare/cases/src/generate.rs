@@ -3,7 +3,7 @@
 use crate::case::{Call, Case};
 use crate::random::Random;
 use oracle::record::{RECORD_BYTES, encode};
-use oracle::{PlineVertex, PlineViewData, Vector2, segment, view};
+use oracle::{LINE_LIMIT, PlineVertex, PlineViewData, Vector2, segment, view};
 
 /// The tolerances that the text and document 01 name.
 const NAMED_TOLERANCES: [f64; 4] = [1e-8, 1e-5, 1e-3, 1.0];
@@ -29,6 +29,8 @@ pub struct Generator {
     pub random: Random,
     /// In how many of a hundred places the case at hand is damaged.
     trouble: usize,
+    /// The line limit at which its bulges gather: its own where that is in range, else the default.
+    limit: f64,
     /// Whether long outlines are wanted too.
     long: bool,
     /// Outlines at the vertex limit and at the one before it, 1,024, made once.
@@ -50,6 +52,7 @@ impl Generator {
         Generator {
             random: Random::new(seed),
             trouble: 0,
+            limit: LINE_LIMIT,
             long: false,
             long_outlines: Vec::new(),
         }
@@ -103,11 +106,18 @@ impl Generator {
     /// A bulge in range.
     fn bulge(&mut self) -> f64 {
         let r = &mut self.random;
+        if self.limit != LINE_LIMIT && r.chance(40) {
+            // At the limit, or an arc at the default limit and a line at this one.
+            let below = (self.limit * r.magnitude(-8, 0)).max(LINE_LIMIT);
+            let x = r.ulp(self.limit);
+            let x = r.pick(&[x, below]);
+            return r.signed(x);
+        }
         let x = match r.below(12) {
             0..=2 => 0.0,
             3..=5 => r.between(0.0, 1.0),
             6 => r.pick(&[1.0, 1f64.next_down()]),
-            7 => r.ulp(1e-8),
+            7 => r.ulp(LINE_LIMIT),
             8 | 9 => {
                 // Two of them a quarter and a sixth of a circle.
                 r.pick(&[0.5, 0.25, 2f64.sqrt() - 1.0, 2.0 - 3f64.sqrt(), 1.0])
@@ -143,6 +153,43 @@ impl Generator {
             2 => r.pick(&[1e-8, 1.0]),
             _ => r.magnitude(-27, 0).max(1e-8),
         }
+    }
+
+    /// A line limit, the default one as often as not; out of range where there is trouble. The bulges that follow gather
+    /// at it.
+    pub fn line_limit(&mut self) -> f64 {
+        self.limit = LINE_LIMIT;
+        if self.troubled() {
+            return self.random.pick(&[
+                1e-8f64.next_down(),
+                1e-3f64.next_up(),
+                0.0,
+                -0.0,
+                -1e-5,
+                1e-9,
+                2e-3,
+                1.0,
+                f64::NAN,
+                f64::INFINITY,
+                f64::NEG_INFINITY,
+                f64::from_bits(1),
+            ]);
+        }
+        let r = &mut self.random;
+        self.limit = match r.below(4) {
+            0 | 1 => LINE_LIMIT,
+            2 => r.pick(&[
+                1e-8f64.next_up(),
+                1e-7,
+                1e-6,
+                1e-5,
+                1e-4,
+                1e-3f64.next_down(),
+                1e-3,
+            ]),
+            _ => r.magnitude(-27, -9).clamp(1e-8, 1e-3),
+        };
+        self.limit
     }
 
     /// A number that is out of the range up to `limit`, or just inside it.
@@ -292,7 +339,7 @@ impl Generator {
         let start = Vector2::new(seg[0], seg[1]);
         let end = Vector2::new(seg[3], seg[4]);
         let chord = end - start;
-        let center = match segment::seg_arc_radius_and_center(seg) {
+        let center = match segment::seg_arc_radius_and_center(seg, LINE_LIMIT) {
             Ok((_, center)) => center,
             Err(_) => start + chord.scale(0.5),
         };
@@ -305,7 +352,7 @@ impl Generator {
             0 => start,
             1 => end,
             2 => center,
-            3 => segment::seg_midpoint(seg).unwrap_or(center),
+            3 => segment::seg_midpoint(seg, LINE_LIMIT).unwrap_or(center),
             4 => start + chord.scale(part),
             5 => start + chord.scale(0.5) + chord.perp().scale(part - 0.5),
             6 => center + (start - center).scale(2.0 * part),
@@ -341,9 +388,9 @@ impl Generator {
     pub fn distance(&mut self, seg: &[f64; 6], p: Vector2) -> f64 {
         let start = Vector2::new(seg[0], seg[1]);
         let end = Vector2::new(seg[3], seg[4]);
-        let (radius, center) =
-            segment::seg_arc_radius_and_center(seg).unwrap_or((1.0, start + end.scale(0.5)));
-        let closest = segment::seg_closest_point(seg, p, 1e-5).unwrap_or(end);
+        let (radius, center) = segment::seg_arc_radius_and_center(seg, LINE_LIMIT)
+            .unwrap_or((1.0, start + end.scale(0.5)));
+        let closest = segment::seg_closest_point(seg, p, 1e-5, LINE_LIMIT).unwrap_or(end);
         let x = match self.random.below(8) {
             0 => 0.0,
             1 => (p - start).length(),
@@ -439,25 +486,31 @@ impl Generator {
         [v1[0], v1[1], v1[2], v2[0], v2[1], v2[2]]
     }
 
-    /// A record made as the text makes them, from an outline of at least two vertices.
+    /// A record made as the text makes them, from an outline of at least two vertices. At the case's own limit or at the
+    /// default one: what lies on an arc may be off the line that the limit makes of it, and what lies on the line off the arc.
     fn made_record(&mut self, outline: &[f64]) -> Option<PlineViewData> {
+        let limit = if self.limit != LINE_LIMIT && self.random.chance(50) {
+            self.limit
+        } else {
+            LINE_LIMIT
+        };
         let count = outline.len() / 3;
         let eps = self.random.pick(&[1e-5, 1e-5, 1e-8, 1e-3]);
         let anywhere = self.random.below(count);
         let start = self.random.pick(&[0, count - 1, anywhere, anywhere]);
         let seg = Self::segment_at(outline, start);
-        let p = self.point_on(&seg);
+        let p = self.point_on(&seg, limit);
         if self.random.chance(25) {
-            return view::from_new_start(outline, true, p, start as u64, eps).ok();
+            return view::from_new_start(outline, true, p, start as u64, eps, limit).ok();
         }
 
-        let split = segment::seg_split_at_point(&seg, p, eps).ok()?;
+        let split = segment::seg_split_at_point(&seg, p, eps, limit).ok()?;
         let from = split.split_vertex;
         if self.random.chance(30) {
             // On one segment: the rest of it is split once more.
             let rest = [from.x, from.y, from.bulge, seg[3], seg[4], seg[5]];
-            let end = self.point_on(&rest);
-            let again = segment::seg_split_at_point(&rest, end, eps).ok()?;
+            let end = self.point_on(&rest, limit);
+            let again = segment::seg_split_at_point(&rest, end, eps, limit).ok()?;
             return Some(PlineViewData {
                 start_index: start,
                 end_index_offset: 0,
@@ -473,14 +526,14 @@ impl Generator {
             .random
             .pick(&[traverse, traverse, 1, count - 1, count, count + 1]);
         let last = (start + traverse) % count;
-        let end = self.point_on(&Self::segment_at(outline, last));
+        let end = self.point_on(&Self::segment_at(outline, last), limit);
         let vertex = [from.x, from.y, from.bulge];
         let (start, last, traverse) = (start as u64, last as u64, traverse as u64);
-        view::create(outline, start, end, last, &vertex, traverse, eps).ok()
+        view::create(outline, start, end, last, &vertex, traverse, eps, limit).ok()
     }
 
     /// A point on a segment, with no nudge.
-    fn point_on(&mut self, seg: &[f64; 6]) -> Vector2 {
+    fn point_on(&mut self, seg: &[f64; 6], limit: f64) -> Vector2 {
         let start = Vector2::new(seg[0], seg[1]);
         let chord = Vector2::new(seg[3], seg[4]) - start;
         let part = if self.random.chance(50) {
@@ -491,7 +544,7 @@ impl Generator {
         let p = start + chord.scale(part);
         // Off the chord, to the arc's side, so that the closest point lies on the arc.
         let p = p + chord.perp().scale(-0.125 * seg[2]);
-        segment::seg_closest_point(seg, p, 1e-8).unwrap_or(start)
+        segment::seg_closest_point(seg, p, 1e-8, limit).unwrap_or(start)
     }
 
     /// A record with anything in it.
@@ -655,6 +708,7 @@ impl Generator {
     /// A case for this call.
     pub fn case_for(&mut self, call: Call) -> Case {
         self.choose_trouble();
+        self.limit = LINE_LIMIT;
         match call {
             Call::Sqrt => {
                 let case = Case::new(call).number(self.radicand());
@@ -678,17 +732,19 @@ impl Generator {
     }
 
     fn segment_case(&mut self, call: Call, places: usize) -> Case {
-        let mut seg = self.segment(1e-8).to_vec();
+        let limit = self.line_limit();
+        let mut seg = self.segment(self.limit).to_vec();
         for x in seg.iter_mut().filter(|x| **x == 0.0) {
             // Which of two equal numbers a box has shows only in the signs of zeros.
             *x = self.random.signed(0.0);
         }
         let seg = self.maybe_spoilt(seg);
-        Case::new(call).numbers(&seg).room(self.room(places))
+        let case = Case::new(call).numbers(&seg).number(limit);
+        case.room(self.room(places))
     }
 
     fn point_case(&mut self, call: Call, places: usize) -> Case {
-        let tolerance = self.tolerance();
+        let (limit, tolerance) = (self.line_limit(), self.tolerance());
         let seg = self.segment(tolerance);
         let p = self.point_beside(&seg, tolerance);
         let distance = self.distance(&seg, p);
@@ -703,7 +759,7 @@ impl Generator {
         if call != Call::SegTangentVector {
             case = case.number(tolerance);
         }
-        case.room(self.room(places))
+        case.number(limit).room(self.room(places))
     }
 
     /// An index, sometimes at or past the count.
@@ -719,6 +775,7 @@ impl Generator {
     }
 
     fn create_case(&mut self) -> Case {
+        let limit = self.line_limit();
         let outline = self.outline();
         let count = outline.len() / 3;
         let tolerance = self.tolerance();
@@ -753,10 +810,12 @@ impl Generator {
             .numbers(&vertex)
             .whole(traverse)
             .number(tolerance)
+            .number(limit)
             .room(self.room(RECORD_BYTES))
     }
 
     fn new_start_case(&mut self) -> Case {
+        let limit = self.line_limit();
         let outline = self.outline();
         let count = outline.len() / 3;
         let tolerance = self.tolerance();
@@ -775,10 +834,16 @@ impl Generator {
             .number(self.maybe_beyond(p.y))
             .whole(start)
             .number(tolerance)
+            .number(limit)
             .room(self.room(RECORD_BYTES))
     }
 
     fn view_case(&mut self, call: Call) -> Case {
+        let limit = if call.takes_limit() {
+            self.line_limit()
+        } else {
+            LINE_LIMIT
+        };
         let outline = self.outline();
         let record = self.record(&outline);
         let bytes = self.record_bytes(&record);
@@ -793,12 +858,13 @@ impl Generator {
         let case = Case::new(call).numbers(&outline);
         match call {
             Call::ViewValidate => {
-                let case = case.bytes(&bytes).room(self.room(4));
+                let case = case.bytes(&bytes).number(limit).room(self.room(4));
                 case.room(self.room(5))
             }
             Call::ViewMark => {
                 let closed = self.random.pick(&[0, 1, 2, 255]);
-                case.whole(closed).bytes(&bytes).room(self.room(1))
+                let case = case.whole(closed).bytes(&bytes).number(limit);
+                case.room(self.room(1))
             }
             Call::ViewCount => case.bytes(&bytes).room(self.room(1)),
             Call::ViewGet => {

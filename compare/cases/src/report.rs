@@ -1,6 +1,7 @@
 //! What a comparison counts and finds.
 
 use crate::case::{Call, Case, Outcome};
+use oracle::LINE_LIMIT;
 use std::collections::BTreeMap;
 
 /// What was compared, and what was found.
@@ -16,6 +17,9 @@ pub struct Report {
     /// How often it gave each verdict, and how often its verdicts took 0, 1 and 2 square roots.
     verdicts: [u64; 8],
     roots: [u64; 3],
+    /// For each call that takes a line limit, how often it had the default one, how often another in range, and how often
+    /// it answered about what is an arc at the default and a line at its own.
+    limits: [[u64; 3]; 19],
     /// How often each kind of line stood in its sheets.
     lines: BTreeMap<String, u64>,
 }
@@ -76,6 +80,14 @@ impl Report {
             self.verdicts[expected.verdict()] += 1;
             self.roots[expected.roots()] += 1;
         }
+        if let Some(limit) = case.limit() {
+            let at_limit = &mut self.limits[case.call as usize];
+            at_limit[0] += u64::from(limit == LINE_LIMIT);
+            at_limit[1] += u64::from(limit > LINE_LIMIT && limit <= 1e-3);
+            // Refusal 6 is such an answer too.
+            let answered = matches!(expected.refusal, 0 | 6);
+            at_limit[2] += u64::from(answered && case.straightened());
+        }
         let equal = expected == found;
         if !equal {
             self.differ(&format!(
@@ -103,7 +115,7 @@ impl Report {
     }
 
     /// The refusals, answers, verdicts and lines that document 01 names and no case reached, and those reached that
-    /// it does not name.
+    /// it does not name; the calls that met no default line limit, no other, or no arc that theirs makes a line.
     pub fn gaps(&self) -> Vec<String> {
         let mut gaps = Vec::new();
         for call in Call::ALL {
@@ -122,6 +134,14 @@ impl Report {
         for (roots, times) in self.roots.iter().enumerate() {
             if *times == 0 {
                 gaps.push(format!("{roots} roots: never"));
+            }
+        }
+        for call in Call::ALL.into_iter().filter(|call| call.takes_limit()) {
+            let [default, other, straightened] = self.limits[call as usize];
+            if default == 0 || other == 0 || straightened == 0 {
+                gaps.push(format!(
+                    "{call:?}: {default} times at the default line limit, {other} at another, {straightened} on an arc that it makes a line"
+                ));
             }
         }
         if !self.lines.keys().eq(&LINES) {
@@ -149,6 +169,13 @@ impl Report {
         for (roots, times) in self.roots.iter().enumerate() {
             table += &format!(" {roots}:{times}");
         }
+        let total = |k: usize| self.limits.iter().map(|times| times[k]).sum::<u64>();
+        table += &format!(
+            "\nline limits                  default:{} another:{} arcs that it makes lines:{}",
+            total(0),
+            total(1),
+            total(2)
+        );
         table += "\nlines of sheets\n";
         for (kind, times) in &self.lines {
             table += &format!("  {kind:16} {times}\n");

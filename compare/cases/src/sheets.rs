@@ -5,7 +5,7 @@ use crate::report::Report;
 use crate::{command, repository};
 use oracle::record::{RECORD_BYTES, encode};
 use oracle::sheet::{LONGEST, sheet_text};
-use oracle::{PlineViewData, view};
+use oracle::{LINE_LIMIT, PlineViewData, view};
 use std::env;
 use std::io::{ErrorKind, Write};
 use std::path::{Path, PathBuf};
@@ -57,8 +57,8 @@ pub fn whole_view(outline: &[f64], start: u64) -> PlineViewData {
     let at = 3 * start as usize;
     let next = (at + 3) % outline.len();
     let seg: Vec<f64> = [&outline[at..at + 3], &outline[next..next + 3]].concat();
-    let middle = oracle::segment::seg_midpoint(&seg).unwrap();
-    let mut record = view::from_new_start(outline, true, middle, start, 1e-5).unwrap();
+    let middle = oracle::segment::seg_midpoint(&seg, LINE_LIMIT).unwrap();
+    let mut record = view::from_new_start(outline, true, middle, start, 1e-5, LINE_LIMIT).unwrap();
     record.inverted_direction = start % 8 == 4;
     record
 }

@@ -4,7 +4,7 @@
 use crate::case::{Call, Case};
 use crate::generate::Generator;
 use crate::report::{Report, grouped};
-use oracle::{Library, Oracle, Vector2};
+use oracle::{LINE_LIMIT, Library, Oracle, Vector2};
 use std::fmt;
 
 /// What rows of splits met.
@@ -14,8 +14,10 @@ pub struct Splits {
     pub steps: u64,
     /// The steps of the longest row.
     pub longest: u64,
-    /// Steps that were refused for their point or their tolerance: each ends its row.
+    /// Steps that were refused for their point, their tolerance or their line limit: each ends its row.
     pub refused: u64,
+    /// Steps on what is an arc at the default line limit and a line at theirs.
+    pub straightened: u64,
     /// Steps on arcs.
     pub arcs: u64,
     /// Those with a result that bows to the other side, and is no line.
@@ -26,11 +28,21 @@ pub struct Splits {
 
 impl fmt::Display for Splits {
     fn fmt(&self, f: &mut fmt::Formatter<'_>) -> fmt::Result {
-        let [rows, steps, longest, refused, arcs, turned, near] = [
+        let [
+            rows,
+            steps,
+            longest,
+            refused,
+            straightened,
+            arcs,
+            turned,
+            near,
+        ] = [
             self.rows,
             self.steps,
             self.longest,
             self.refused,
+            self.straightened,
             self.arcs,
             self.turned,
             self.turned_near,
@@ -42,7 +54,7 @@ impl fmt::Display for Splits {
         )?;
         writeln!(
             f,
-            "  {arcs} steps on arcs; {turned} turned the arc, {near} of them by a point nearer to an end than the ends are to each other"
+            "  {arcs} steps on arcs, {straightened} on arcs that their line limit makes lines; {turned} turned the arc, {near} of them by a point nearer to an end than the ends are to each other"
         )
     }
 }
@@ -68,15 +80,15 @@ pub fn compare_splits(
 /// The steps of a long row.
 pub const LONG: u64 = 1000;
 
-fn is_arc(bulge: f64) -> bool {
-    bulge.abs() >= 1e-8
+fn is_arc(bulge: f64, limit: f64) -> bool {
+    bulge.abs() >= limit
 }
 
-/// The refusal of what a step passes in: 1 for its point, then 2 for its tolerance.
-fn refusal_of(p: Vector2, tolerance: f64) -> u8 {
+/// The refusal of what a step passes in: 1 for its point, then 2 for its tolerance and for its line limit.
+fn refusal_of(p: Vector2, tolerance: f64, limit: f64) -> u8 {
     if !(p.x.abs() <= 1e6 && p.y.abs() <= 1e6) {
         1
-    } else if !(1e-8..=1.0).contains(&tolerance) {
+    } else if !(1e-8..=1.0).contains(&tolerance) || !(1e-8..=1e-3).contains(&limit) {
         2
     } else {
         0
@@ -107,24 +119,26 @@ fn row(
     if long {
         generator.no_trouble();
     }
+    generator.line_limit();
     let mut seg = generator.segment(1e-5);
     for k in [0, 1, 3, 4] {
         seg[k] = seg[k].clamp(-1e6, 1e6);
     }
     for _ in 0..if long { LONG } else { 40 } {
-        let tolerance = generator.tolerance();
+        let (tolerance, limit) = (generator.tolerance(), generator.line_limit());
         let mut p = generator.point_beside(&seg, tolerance);
         if long || generator.random.chance(98) {
             p = near(p);
         }
         let case = Case::new(Call::SegSplitAtPoint).numbers(&seg);
-        let case = case.number(p.x).number(p.y).number(tolerance).room(6);
+        let case = case.number(p.x).number(p.y).number(tolerance);
+        let case = case.number(limit).room(6);
         let answer = case.run(library);
         splits.steps += 1;
         if !report.judge(&case, &case.run(&Oracle), &answer) {
             return;
         }
-        let refusal = refusal_of(p, tolerance);
+        let refusal = refusal_of(p, tolerance, limit);
         if answer.refusal != refusal {
             report.differ(&format!(
                 "{case}: a split of a split is refused {}, and what it passes in {refusal}",
@@ -142,10 +156,10 @@ fn row(
             report.differ(&format!("{case}: a result leaves the half circle"));
             return;
         }
-        count(&seg, p, &results, splits);
+        count(&seg, p, limit, &results, splits);
 
-        // What has become a line stays one, so a long row goes on with the greater bulge.
-        let line = !is_arc(results[2]) && !is_arc(results[5]);
+        // What is a line at every limit stays one, so a long row goes on with the greater bulge.
+        let line = !is_arc(results[2], LINE_LIMIT) && !is_arc(results[5], LINE_LIMIT);
         if line && generator.random.chance(70) {
             return;
         }
@@ -163,12 +177,13 @@ fn row(
 }
 
 /// Counts what a step met.
-fn count(seg: &[f64; 6], p: Vector2, results: &[f64; 6], splits: &mut Splits) {
-    if !is_arc(seg[2]) {
+fn count(seg: &[f64; 6], p: Vector2, limit: f64, results: &[f64; 6], splits: &mut Splits) {
+    if !is_arc(seg[2], limit) {
+        splits.straightened += u64::from(is_arc(seg[2], LINE_LIMIT));
         return;
     }
     splits.arcs += 1;
-    let turns = |bulge: f64| is_arc(bulge) && (bulge < 0.0) != (seg[2] < 0.0);
+    let turns = |bulge: f64| is_arc(bulge, limit) && (bulge < 0.0) != (seg[2] < 0.0);
     if turns(results[2]) || turns(results[5]) {
         splits.turned += 1;
         let (start, end) = (Vector2::new(seg[0], seg[1]), Vector2::new(seg[3], seg[4]));

@@ -5,7 +5,7 @@ use crate::generate::Generator;
 use crate::random::Random;
 use crate::sheets::{largest_outline, whole_view};
 use oracle::record::encode;
-use oracle::{Oracle, PlineVertex, PlineViewData, Vector2};
+use oracle::{LINE_LIMIT, Oracle, PlineVertex, PlineViewData, Vector2};
 
 const SEED: u64 = 2026;
 
@@ -101,24 +101,29 @@ fn by_hand() -> Vec<Case> {
     let seg = |call, seg: &[f64]| Case::new(call).numbers(seg);
     let split = |x, y, eps: f64| {
         let case = seg(Call::SegSplitAtPoint, &h).number(x).number(y);
-        case.number(eps).room(6)
+        case.number(eps).number(LINE_LIMIT).room(6)
     };
     let farther = |distance: f64| {
         let case = seg(Call::SegDistanceIsGreaterThan, &h);
         let case = case.number(0.5).number(0.0).number(distance);
-        case.number(1e-5).room(1)
+        case.number(1e-5).number(LINE_LIMIT).room(1)
     };
     let tangent = |x, y| {
         let case = seg(Call::SegTangentVector, &p4);
-        case.number(x).number(y).room(2)
+        case.number(x).number(y).number(LINE_LIMIT).room(2)
     };
     let on_q = |call, record: &PlineViewData| Case::new(call).numbers(&Q).bytes(&encode(record, 0));
-    let validate = |record: &PlineViewData| on_q(Call::ViewValidate, record).room(4).room(5);
+    let validate = |record: &PlineViewData| {
+        let case = on_q(Call::ViewValidate, record).number(LINE_LIMIT);
+        case.room(4).room(5)
+    };
     let list = |record: &PlineViewData| on_q(Call::ViewList, record).room(12).room(1);
     vec![
-        seg(Call::SegArcRadiusAndCenter, &h).room(3),
-        seg(Call::SegBoundingBox, &h).room(4),
-        seg(Call::SegMidpoint, &h).room(2),
+        seg(Call::SegArcRadiusAndCenter, &h)
+            .number(LINE_LIMIT)
+            .room(3),
+        seg(Call::SegBoundingBox, &h).number(LINE_LIMIT).room(4),
+        seg(Call::SegMidpoint, &h).number(LINE_LIMIT).room(2),
         tangent(3.0, 1.0),
         tangent(2.0, 2.0),
         split(3.0, 0.0, 1e-5),
@@ -159,7 +164,10 @@ pub fn long() -> Vec<Case> {
         on_limit(Call::ViewList, &inverted)
             .room(3 * 2002 - 1)
             .room(1),
-        on_limit(Call::ViewValidate, &inverted).room(4).room(5),
+        on_limit(Call::ViewValidate, &inverted)
+            .number(LINE_LIMIT)
+            .room(4)
+            .room(5),
         on_limit(Call::ViewGet, &inverted).whole(1500).room(3),
         on_limit(Call::ViewTrim, &inverted)
             .whole(100)
@@ -222,7 +230,8 @@ pub fn round() -> Vec<Case> {
             cases.push(on_q(Call::ViewTrim).whole(i).whole(5).room(64));
         }
         cases.push(on_q(Call::ViewList).room(18).room(1));
-        cases.push(on_q(Call::ViewValidate).room(4).room(5));
+        let validation = on_q(Call::ViewValidate).number(LINE_LIMIT);
+        cases.push(validation.room(4).room(5));
     }
     cases
 }
@@ -251,6 +260,7 @@ pub fn gap() -> Vec<Case> {
         let case = Case::new(Call::ViewMark).numbers(outline);
         case.whole(u64::from(closed))
             .bytes(&encode(record, 0))
+            .number(LINE_LIMIT)
             .room(1)
     };
     let mut cases = Vec::new();
@@ -290,7 +300,8 @@ pub fn gap() -> Vec<Case> {
 pub fn turned() -> Vec<Case> {
     let split = |seg: [f64; 6], x: f64, y: f64| {
         let case = Case::new(Call::SegSplitAtPoint).numbers(&seg);
-        case.number(x).number(y).number(1e-5).room(6)
+        let case = case.number(x).number(y).number(1e-5);
+        case.number(LINE_LIMIT).room(6)
     };
     vec![
         split([0.0, 0.0, 0.5, 1.0, 0.0, 0.0], -1.0, 1.0),
@@ -317,9 +328,10 @@ pub fn numbered() -> Vec<Case> {
         cases.push(on_q(Call::ViewList).room(12).room(1));
         cases.push(on_q(Call::ViewGet).whole(1).room(3));
         cases.push(on_q(Call::ViewCount).room(1));
-        cases.push(on_q(Call::ViewValidate).room(4).room(5));
+        let validation = on_q(Call::ViewValidate).number(LINE_LIMIT);
+        cases.push(validation.room(4).room(5));
         let mark = Case::new(Call::ViewMark).numbers(&Q).whole(1);
-        cases.push(mark.bytes(&record).room(1));
+        cases.push(mark.bytes(&record).number(LINE_LIMIT).room(1));
     }
     cases
 }
@@ -343,7 +355,8 @@ pub fn rooted() -> Vec<Case> {
     let arch = |from, to| along(0, from, to, 1.0);
     let validate = |outline: &[f64], record: &PlineViewData, words| {
         let case = Case::new(Call::ViewValidate).numbers(outline);
-        case.bytes(&encode(record, 0)).room(words).room(5)
+        let case = case.bytes(&encode(record, 0)).number(LINE_LIMIT);
+        case.room(words).room(5)
     };
     let on_arch = |record: PlineViewData| validate(&ARCH, &record, 4);
     vec![
@@ -363,6 +376,188 @@ pub fn rooted() -> Vec<Case> {
     ]
 }
 
+/// An arc from (0,0) to (4,0) that bows 0.0000002 mm below the line between them, and the lines back by (4,4) and (0,4).
+pub const TRACED: [f64; 12] = [0.0, 0.0, 1e-7, 4.0, 0.0, 0.0, 4.0, 4.0, 0.0, 0.0, 4.0, 0.0];
+
+/// An arc from (0,0) to (4000,0) that bows 0.002 mm below the line between them, twice what validation lets a point be off.
+pub const TRACED_LONG: [f64; 6] = [0.0, 0.0, 1e-6, 4000.0, 0.0, 0.0];
+
+/// A view along the first segment, whose bulge it has.
+fn along_first(outline: &[f64], [x, y]: [f64; 2], [end_x, end_y]: [f64; 2]) -> PlineViewData {
+    PlineViewData {
+        start_index: 0,
+        end_index_offset: 0,
+        updated_start: PlineVertex::new(x, y, outline[2]),
+        updated_end_bulge: outline[2],
+        end_point: Vector2::new(end_x, end_y),
+        inverted_direction: false,
+    }
+}
+
+/// A segment call: the segment, the numbers between it and the limit, the limit, the room.
+fn on_segment(call: Call, seg: &[f64], numbers: &[f64], limit: f64, room: usize) -> Case {
+    let case = Case::new(call).numbers(seg);
+    let case = numbers.iter().fold(case, |case, x| case.number(*x));
+    case.number(limit).room(room)
+}
+
+fn validate_at(outline: &[f64], record: &[u8], limit: f64) -> Case {
+    let case = Case::new(Call::ViewValidate).numbers(outline);
+    case.bytes(record).number(limit).room(4).room(5)
+}
+
+fn mark_at(outline: &[f64], record: &[u8], limit: f64) -> Case {
+    let case = Case::new(Call::ViewMark).numbers(outline).whole(1);
+    case.bytes(record).number(limit).room(1)
+}
+
+/// Two traced arcs at the default line limit, where they are arcs, and then at one that makes them lines. The first at 1e-6:
+/// the seven segment calls, `create` to (1,0), the new start (1,0), and the verdict from (1,0) to (3,0). The second at 1e-5:
+/// verdict and mark from its lowest point to its end, and from the middle of the line to there.
+pub fn limited() -> Vec<Case> {
+    let mut cases = Vec::new();
+    for (limit, limit_of_long) in [(LINE_LIMIT, LINE_LIMIT), (1e-6, 1e-5)] {
+        let seg = &TRACED[..6];
+        let on = |call, numbers: &[f64], room| on_segment(call, seg, numbers, limit, room);
+        let from = |x| encode(&along_first(&TRACED, [x, 0.0], [3.0, 0.0]), 0);
+        let outline = |call| Case::new(call).numbers(&TRACED);
+        let create = outline(Call::ViewCreate).whole(3).number(1.0).number(0.0);
+        let create = create.whole(0).numbers(&[0.0, 2.0, 0.0]).whole(1);
+        let start = outline(Call::ViewFromNewStart).whole(1);
+        let start = start.number(1.0).number(0.0).whole(0);
+        cases.extend([
+            on(Call::SegArcRadiusAndCenter, &[], 3),
+            on(Call::SegSplitAtPoint, &[1.0, 0.0, 1e-5], 6),
+            on(Call::SegTangentVector, &[0.0, 0.0], 2),
+            on(Call::SegClosestPoint, &[2.0, -1.0, 1e-5], 2),
+            on(
+                Call::SegDistanceIsGreaterThan,
+                &[2.0, -1.0, 1.0 - 1e-7, 1e-5],
+                1,
+            ),
+            on(Call::SegBoundingBox, &[], 4),
+            on(Call::SegMidpoint, &[], 2),
+            create.number(1e-5).number(limit).room(64),
+            start.number(1e-5).number(limit).room(64),
+            validate_at(&TRACED, &from(1.0), limit),
+        ]);
+        for y in [-0.002, 0.0] {
+            let record = along_first(&TRACED_LONG, [2000.0, y], [4000.0, 0.0]);
+            let record = encode(&record, 0);
+            cases.push(validate_at(&TRACED_LONG, &record, limit_of_long));
+            cases.push(mark_at(&TRACED_LONG, &record, limit_of_long));
+        }
+    }
+    cases
+}
+
+/// Where the limit itself falls, and what it is not for. Radius and centre of bulges at three limits: the limit, both of its
+/// signs, and the number next below it. Then at the greatest limit: a line's closest point and distance by points whose
+/// projections are 1e-7 off its ends; an arc's radius and box where its ends are 1e-6 apart, and the radius where they are
+/// less than 1e-8 apart.
+pub fn limits() -> Vec<Case> {
+    let mut cases = Vec::new();
+    let radius = |bulge, x, limit| {
+        let seg = [0.0, 0.0, bulge, x, 0.0, 0.0];
+        on_segment(Call::SegArcRadiusAndCenter, &seg, &[], limit, 3)
+    };
+    for limit in [LINE_LIMIT, 1e-6, 1e-3] {
+        for bulge in [limit, -limit, limit.next_down()] {
+            cases.push(radius(bulge, 1.0, limit));
+        }
+    }
+    let line = [0.0, 0.0, 0.0, 1.0, 0.0, 0.0];
+    for x in [1e-7, 1.0 - 1e-7] {
+        let (closest, distance) = ([x, 1.0, 1e-5], [x, 1.0, 1.0, 1e-5]);
+        cases.extend([
+            on_segment(Call::SegClosestPoint, &line, &closest, 1e-3, 2),
+            on_segment(Call::SegDistanceIsGreaterThan, &line, &distance, 1e-3, 1),
+        ]);
+    }
+    let half_circle = [0.0, 0.0, 1.0, 1e-6, 0.0, 0.0];
+    cases.extend([
+        radius(1.0, 1e-6, 1e-3),
+        on_segment(Call::SegBoundingBox, &half_circle, &[], 1e-3, 4),
+        radius(1.0, 1e-8f64.next_down(), 1e-3),
+    ]);
+    cases
+}
+
+/// For each call that takes a line limit a case that answers where this one is in range.
+fn each_at(limit: f64) -> Vec<Case> {
+    let h = [0.0, 0.0, 1.0, 1.0, 0.0, 0.0];
+    let on = |call, numbers: &[f64], room| on_segment(call, &h, numbers, limit, room);
+    let record = encode(&along_q(0, 2, false), 0);
+    let create = Case::new(Call::ViewCreate).numbers(&Q).whole(0);
+    let create = create.number(2.0).number(4.0).whole(2);
+    let create = create.numbers(&[2.0, 0.0, 0.0]).whole(2);
+    let start = Case::new(Call::ViewFromNewStart).numbers(&Q).whole(1);
+    let start = start.number(2.0).number(0.0).whole(0);
+    vec![
+        on(Call::SegArcRadiusAndCenter, &[], 3),
+        on(Call::SegSplitAtPoint, &[0.5, -0.5, 1e-5], 6),
+        on(Call::SegTangentVector, &[0.5, -0.5], 2),
+        on(Call::SegClosestPoint, &[0.5, -1.0, 1e-5], 2),
+        on(Call::SegDistanceIsGreaterThan, &[0.5, -1.0, 0.25, 1e-5], 1),
+        on(Call::SegBoundingBox, &[], 4),
+        on(Call::SegMidpoint, &[], 2),
+        create.number(1e-5).number(limit).room(64),
+        start.number(1e-5).number(limit).room(64),
+        validate_at(&Q, &record, limit),
+        mark_at(&Q, &record, limit),
+    ]
+}
+
+/// The limit's range, for each of the eleven calls that take it: its two ends, the numbers next beyond them, a NaN, and a bad
+/// limit with a coordinate that is a NaN. Then a bad limit beside what is refused before it or after it.
+pub fn limits_refused() -> Vec<Case> {
+    let bad = 1e-3f64.next_up();
+    let mut cases: Vec<Case> = [1e-8, 1e-3, 1e-8f64.next_down(), bad, f64::NAN]
+        .into_iter()
+        .flat_map(each_at)
+        .collect();
+    cases.extend(each_at(bad).into_iter().map(|mut case| {
+        case.words[1] = f64::NAN.to_bits();
+        case
+    }));
+
+    let line = [0.0, 0.0, 0.0, 1.0, 0.0, 0.0];
+    let record = encode(&along_q(0, 2, false), 0);
+    let with_index = |start_index| PlineViewData {
+        start_index,
+        ..along_q(0, 2, false)
+    };
+    let past = encode(&with_index(4), 0);
+    let offset_past = encode(&along_q(0, 5, false), 0);
+    let mut direction_2 = record;
+    direction_2[56] = 2;
+    let create = |start, traverse| {
+        let case = Case::new(Call::ViewCreate).numbers(&Q).whole(start);
+        let case = case.number(2.0).number(4.0).whole(2);
+        let case = case.numbers(&[2.0, 0.0, 0.0]).whole(traverse);
+        case.number(1e-5).number(bad).room(64)
+    };
+    let open = Case::new(Call::ViewFromNewStart).numbers(&Q).whole(0);
+    let open = open.number(2.0).number(0.0).whole(0);
+    cases.extend([
+        on_segment(Call::SegMidpoint, &line[..5], &[], bad, 2),
+        on_segment(Call::SegArcRadiusAndCenter, &line, &[], bad, 3),
+        open.number(1e-5).number(bad).room(64),
+        create(0, 0),
+        create(4, 2),
+        validate_at(&[], &record, bad),
+        mark_at(&[], &record, bad),
+        validate_at(&Q, &offset_past, bad),
+        validate_at(&Q, &past, bad),
+        mark_at(&Q, &past, bad),
+        validate_at(&Q, &record[..63], bad),
+        mark_at(&Q, &direction_2, bad),
+        on_segment(Call::SegMidpoint, &line, &[], bad, 1),
+        on_segment(Call::SegMidpoint, &line, &[], 1e-3, 1),
+    ]);
+    cases
+}
+
 /// The whole stored list.
 pub fn all() -> Vec<Case> {
     let parts = [
@@ -375,6 +570,9 @@ pub fn all() -> Vec<Case> {
         gap(),
         turned(),
         rooted(),
+        limited(),
+        limits(),
+        limits_refused(),
     ];
     parts.concat()
 }

@@ -1,12 +1,13 @@
 //! The comparison finds faults: the oracle is spoilt in one place at a time, and each time the comparison must say so.
 
+use cases::case::Call;
 use cases::compare::compare_calls;
 use cases::former::former_box_line;
 use cases::report::Report;
 use cases::sheets::compare_sheets;
 use cases::splits::compare_splits;
 use oracle::sheet::sheet_text;
-use oracle::{Library, Oracle, Vector2, record, view};
+use oracle::{LINE_LIMIT, Library, Oracle, Vector2, record, view};
 
 #[derive(Debug, Clone, Copy, PartialEq)]
 enum Fault {
@@ -62,6 +63,27 @@ enum Fault {
     PointNearAnEndTakesARoot,
     NoRootsReported,
     ThreeWordsAreRoom,
+    // The line limit.
+    LimitIgnored(Call),
+    LimitInALinesEndTest,
+    LimitInALinesEndTestOfDistance,
+    LimitInTheTestOfAnArcsEnds,
+    LimitInTheBoxOfAnArcsEnds,
+    GreatestLimitRefused,
+    LeastLimitRefused,
+    NanLimitAccepted,
+    LimitRefusedBeforeNumber,
+    LimitRefusedBeforePoint,
+    LimitRefusedAfterNoArc,
+    LimitRefusedAfterOpen,
+    LimitRefusedAfterTraverse,
+    LimitRefusedAfterIndex,
+    LimitRefusedAfterVerdictOne,
+    LimitRefusedAfterVerdictTwo,
+    LimitRefusedAfterIndexOfARecord,
+    LimitRefusedAfterRoom,
+    LimitRefusedBeforeDirection,
+    RootsOfTheDefaultLimit,
     // Rows of splits.
     SplitAnUlpOverTheHalfCircle,
     SplitHalfCircleRefused,
@@ -73,6 +95,22 @@ struct Spoilt(Fault);
 impl Spoilt {
     fn is(&self, fault: Fault) -> bool {
         self.0 == fault
+    }
+
+    /// The limit that the call is judged at in place of its own.
+    fn limit(&self, call: Call, limit: f64) -> f64 {
+        match self.0 {
+            Fault::LimitIgnored(ignored) if ignored == call && in_range(limit) => LINE_LIMIT,
+            Fault::GreatestLimitRefused if limit == 1e-3 => f64::NAN,
+            Fault::LeastLimitRefused if limit == 1e-8 => f64::NAN,
+            Fault::NanLimitAccepted if limit.is_nan() => LINE_LIMIT,
+            _ => limit,
+        }
+    }
+
+    /// Whether this is the fault, and the limit is out of range.
+    fn misplaces(&self, fault: Fault, limit: f64) -> bool {
+        self.is(fault) && !in_range(limit)
     }
 
     /// The roots that are reported for a verdict that took so many.
@@ -99,6 +137,31 @@ impl Spoilt {
         let record = record::decode(bytes).ok()?;
         record.inverted_direction.then_some(())?;
         Some(view::list(outline, &record).ok()?.len())
+    }
+}
+
+fn in_range(limit: f64) -> bool {
+    (1e-8..=1e-3).contains(&limit)
+}
+
+/// Whether a segment's ends are one point at this limit.
+fn ends_meet(seg: &[f64], limit: f64) -> bool {
+    Vector2::new(seg[0], seg[1]).fuzzy_eq_eps(Vector2::new(seg[3], seg[4]), limit)
+}
+
+/// The end of a line that is closest where the end tests have the line limit.
+fn end_by_limit(seg: &[f64], x: f64, y: f64, limit: f64) -> Option<&[f64]> {
+    let start = Vector2::new(seg[0], seg[1]);
+    let chord = Vector2::new(seg[3], seg[4]) - start;
+    let projection = (Vector2::new(x, y) - start).dot(chord);
+    if seg[2].abs() >= limit {
+        None
+    } else if projection < limit {
+        Some(&seg[..2])
+    } else if chord.length_squared() < projection + limit {
+        Some(&seg[3..5])
+    } else {
+        None
     }
 }
 
@@ -148,8 +211,20 @@ impl Library for Spoilt {
         Oracle.vertex(numbers, out)
     }
 
-    fn seg_arc_radius_and_center(&self, seg: &[f64], out: &mut [f64]) -> u8 {
-        Oracle.seg_arc_radius_and_center(seg, out)
+    fn seg_arc_radius_and_center(&self, seg: &[f64], line_limit: f64, out: &mut [f64]) -> u8 {
+        let line_limit = self.limit(Call::SegArcRadiusAndCenter, line_limit);
+        let default = Oracle.seg_arc_radius_and_center(seg, LINE_LIMIT, &mut out.to_vec());
+        if self.misplaces(Fault::LimitRefusedAfterNoArc, line_limit) && default == 6 {
+            return 6;
+        }
+        if self.is(Fault::LimitInTheTestOfAnArcsEnds)
+            && default == 0
+            && in_range(line_limit)
+            && ends_meet(seg, line_limit)
+        {
+            return 6;
+        }
+        Oracle.seg_arc_radius_and_center(seg, line_limit, out)
     }
 
     fn seg_split_at_point(
@@ -158,13 +233,15 @@ impl Library for Spoilt {
         x: f64,
         y: f64,
         tolerance: f64,
+        line_limit: f64,
         out: &mut [f64],
     ) -> u8 {
+        let line_limit = self.limit(Call::SegSplitAtPoint, line_limit);
         let half_circle = seg.len() == 6 && seg[2].abs() == 1.0;
         if self.is(Fault::SplitHalfCircleRefused) && half_circle {
             return 1;
         }
-        let refusal = Oracle.seg_split_at_point(seg, x, y, tolerance, out);
+        let refusal = Oracle.seg_split_at_point(seg, x, y, tolerance, line_limit, out);
         if refusal != 0 {
             return refusal;
         }
@@ -177,12 +254,20 @@ impl Library for Spoilt {
         refusal
     }
 
-    fn seg_tangent_vector(&self, seg: &[f64], x: f64, y: f64, out: &mut [f64]) -> u8 {
+    fn seg_tangent_vector(
+        &self,
+        seg: &[f64],
+        x: f64,
+        y: f64,
+        line_limit: f64,
+        out: &mut [f64],
+    ) -> u8 {
+        let line_limit = self.limit(Call::SegTangentVector, line_limit);
         if self.is(Fault::EndBulgeNotChecked) && seg.len() == 6 {
             let seg = [seg[0], seg[1], seg[2], seg[3], seg[4], 0.0];
-            return Oracle.seg_tangent_vector(&seg, x, y, out);
+            return Oracle.seg_tangent_vector(&seg, x, y, line_limit, out);
         }
-        Oracle.seg_tangent_vector(seg, x, y, out)
+        Oracle.seg_tangent_vector(seg, x, y, line_limit, out)
     }
 
     fn seg_closest_point(
@@ -191,12 +276,24 @@ impl Library for Spoilt {
         x: f64,
         y: f64,
         tolerance: f64,
+        line_limit: f64,
         out: &mut [f64],
     ) -> u8 {
+        let line_limit = self.limit(Call::SegClosestPoint, line_limit);
         if self.is(Fault::ToleranceEndsRefused) && tolerance == 1.0 {
             return 2;
         }
-        let refusal = Oracle.seg_closest_point(seg, x, y, tolerance, out);
+        let refusal = Oracle.seg_closest_point(seg, x, y, tolerance, line_limit, out);
+        let sound = oracle::segment::seg_midpoint(seg, LINE_LIMIT).is_ok();
+        if self.misplaces(Fault::LimitRefusedBeforePoint, line_limit) && refusal == 1 && sound {
+            return 2;
+        }
+        if refusal == 0
+            && self.is(Fault::LimitInALinesEndTest)
+            && let Some(end) = end_by_limit(seg, x, y, line_limit)
+        {
+            out[..2].copy_from_slice(end);
+        }
         if refusal == 0 && self.is(Fault::TieToTheFirstEnd) {
             let (v1, v2) = (Vector2::new(seg[0], seg[1]), Vector2::new(seg[3], seg[4]));
             let p = Vector2::new(x, y);
@@ -215,17 +312,36 @@ impl Library for Spoilt {
         y: f64,
         distance: f64,
         tolerance: f64,
+        line_limit: f64,
         out: &mut [u8],
     ) -> u8 {
+        let limit = self.limit(Call::SegDistanceIsGreaterThan, line_limit);
         let nearer = distance.abs().next_down();
         if self.is(Fault::AtTheDistanceIsGreater) && nearer > 0.0 && distance.abs() <= 1e6 {
-            return Oracle.seg_distance_is_greater_than(seg, x, y, nearer, tolerance, out);
+            return Oracle.seg_distance_is_greater_than(seg, x, y, nearer, tolerance, limit, out);
         }
-        Oracle.seg_distance_is_greater_than(seg, x, y, distance, tolerance, out)
+        let refusal =
+            Oracle.seg_distance_is_greater_than(seg, x, y, distance, tolerance, limit, out);
+        if refusal == 0
+            && self.is(Fault::LimitInALinesEndTestOfDistance)
+            && let Some(end) = end_by_limit(seg, x, y, limit)
+        {
+            let off = Vector2::new(x - end[0], y - end[1]);
+            out[0] = u8::from(off.length_squared() > distance * distance);
+        }
+        refusal
     }
 
-    fn seg_bounding_box(&self, seg: &[f64], out: &mut [f64]) -> u8 {
-        let refusal = Oracle.seg_bounding_box(seg, out);
+    fn seg_bounding_box(&self, seg: &[f64], line_limit: f64, out: &mut [f64]) -> u8 {
+        let line_limit = self.limit(Call::SegBoundingBox, line_limit);
+        let refusal = Oracle.seg_bounding_box(seg, line_limit, out);
+        if refusal == 0
+            && self.is(Fault::LimitInTheBoxOfAnArcsEnds)
+            && seg[2].abs() >= line_limit
+            && ends_meet(seg, line_limit)
+        {
+            out[..4].copy_from_slice(&[seg[0], seg[1], seg[0], seg[1]]);
+        }
         if refusal == 0 && self.is(Fault::ZeroLosesItsSign) {
             zero_sign_lost(&mut out[..4]);
         }
@@ -236,12 +352,20 @@ impl Library for Spoilt {
         refusal
     }
 
-    fn seg_midpoint(&self, seg: &[f64], out: &mut [f64]) -> u8 {
-        if self.is(Fault::LimitItselfIsALine) && seg.len() == 6 && seg[2].abs() == 1e-8 {
+    fn seg_midpoint(&self, seg: &[f64], line_limit: f64, out: &mut [f64]) -> u8 {
+        let line_limit = self.limit(Call::SegMidpoint, line_limit);
+        if self.is(Fault::LimitItselfIsALine) && seg.len() == 6 && seg[2].abs() == line_limit {
             let seg = [seg[0], seg[1], 0.0, seg[3], seg[4], seg[5]];
-            return Oracle.seg_midpoint(&seg, out);
+            return Oracle.seg_midpoint(&seg, line_limit, out);
         }
-        let refusal = Oracle.seg_midpoint(seg, out);
+        let default = Oracle.seg_midpoint(seg, LINE_LIMIT, &mut out.to_vec());
+        if self.misplaces(Fault::LimitRefusedBeforeNumber, line_limit) && default == 1 {
+            return 2;
+        }
+        if self.misplaces(Fault::LimitRefusedAfterRoom, line_limit) && default == 8 {
+            return 8;
+        }
+        let refusal = Oracle.seg_midpoint(seg, line_limit, out);
         if refusal != 0 && self.is(Fault::RefusalWrites) {
             out.fill(0.0);
         }
@@ -258,12 +382,26 @@ impl Library for Spoilt {
         vertex: &[f64],
         traverse: u64,
         tolerance: f64,
+        line_limit: f64,
         out: &mut [u8],
     ) -> u8 {
+        let line_limit = self.limit(Call::ViewCreate, line_limit);
         let old = old_number(out);
-        let refusal = Oracle.view_create(
-            outline, start, x, y, intersect, vertex, traverse, tolerance, out,
-        );
+        let create = |line_limit, out: &mut [u8]| {
+            Oracle.view_create(
+                outline, start, x, y, intersect, vertex, traverse, tolerance, line_limit, out,
+            )
+        };
+        let default = create(LINE_LIMIT, &mut out.to_vec());
+        for (fault, late) in [
+            (Fault::LimitRefusedAfterTraverse, 5),
+            (Fault::LimitRefusedAfterIndex, 4),
+        ] {
+            if self.misplaces(fault, line_limit) && default == late {
+                return late;
+            }
+        }
+        let refusal = create(line_limit, out);
         if self.is(Fault::CreateKeepsAnOldNumber) {
             return renumber(refusal, out, old);
         }
@@ -283,15 +421,24 @@ impl Library for Spoilt {
         y: f64,
         start: u64,
         tolerance: f64,
+        line_limit: f64,
         out: &mut [u8],
     ) -> u8 {
+        let line_limit = self.limit(Call::ViewFromNewStart, line_limit);
         let closed = if self.is(Fault::OnlyOneCountsAsClosed) {
             u8::from(closed == 1)
         } else {
             closed
         };
         let old = old_number(out);
-        let refusal = Oracle.view_from_new_start(outline, closed, x, y, start, tolerance, out);
+        let from_new_start = |line_limit, out: &mut [u8]| {
+            Oracle.view_from_new_start(outline, closed, x, y, start, tolerance, line_limit, out)
+        };
+        let default = from_new_start(LINE_LIMIT, &mut out.to_vec());
+        if self.misplaces(Fault::LimitRefusedAfterOpen, line_limit) && default == 10 {
+            return 10;
+        }
+        let refusal = from_new_start(line_limit, out);
         if self.is(Fault::NewStartKeepsAnOldNumber) {
             return renumber(refusal, out, old);
         }
@@ -302,20 +449,37 @@ impl Library for Spoilt {
         &self,
         outline: &[f64],
         bytes: &[u8],
+        line_limit: f64,
         whole: &mut [u64],
         out: &mut [f64],
     ) -> u8 {
+        let mut line_limit = self.limit(Call::ViewValidate, line_limit);
+        let count = outline.len() / 3;
+        let offset = record::decode(bytes).map_or(0, |record| record.end_index_offset);
+        let early = self.misplaces(Fault::LimitRefusedAfterVerdictOne, line_limit) && count < 2
+            || self.misplaces(Fault::LimitRefusedAfterVerdictTwo, line_limit) && offset > count;
+        if early {
+            line_limit = LINE_LIMIT;
+        }
+        let (mut default, mut numbers) = ([0; 4], [0.0; 5]);
+        let without = Oracle.view_validate(outline, bytes, LINE_LIMIT, &mut default, &mut numbers);
+        if self.misplaces(Fault::LimitRefusedAfterIndexOfARecord, line_limit) && without == 4 {
+            return 4;
+        }
         if self.is(Fault::ThreeWordsAreRoom) && whole.len() == 3 {
             let mut words = [0; 4];
-            let refusal = Oracle.view_validate(outline, bytes, &mut words, out);
+            let refusal = Oracle.view_validate(outline, bytes, line_limit, &mut words, out);
             if refusal == 0 {
                 whole.copy_from_slice(&words[..3]);
             }
             return refusal;
         }
-        let refusal = Oracle.view_validate(outline, bytes, whole, out);
+        let refusal = Oracle.view_validate(outline, bytes, line_limit, whole, out);
         if refusal != 0 {
             return refusal;
+        }
+        if self.is(Fault::RootsOfTheDefaultLimit) {
+            whole[3] = default[3];
         }
         whole[3] = self.roots(outline, bytes, whole[0], whole[3]);
         if whole[0] == 7 && self.is(Fault::FinalVertexTestedWithTheOtherTolerance) {
@@ -337,7 +501,15 @@ impl Library for Spoilt {
         refusal
     }
 
-    fn view_mark(&self, outline: &[f64], closed: u8, bytes: &[u8], out: &mut [u8]) -> u8 {
+    fn view_mark(
+        &self,
+        outline: &[f64],
+        closed: u8,
+        bytes: &[u8],
+        line_limit: f64,
+        out: &mut [u8],
+    ) -> u8 {
+        let line_limit = self.limit(Call::ViewMark, line_limit);
         let record = record::decode(bytes).ok();
         let inverted = record.is_some_and(|record| record.inverted_direction);
         let last = record.is_some_and(|record| {
@@ -353,7 +525,11 @@ impl Library for Spoilt {
             _ if as_open => 0,
             _ => closed,
         };
-        Oracle.view_mark(outline, closed, bytes, out)
+        let refusal = Oracle.view_mark(outline, closed, bytes, line_limit, out);
+        if self.misplaces(Fault::LimitRefusedBeforeDirection, line_limit) && refusal == 12 {
+            return 2;
+        }
+        refusal
     }
 
     fn view_count(&self, outline: &[f64], bytes: &[u8], out: &mut [u64]) -> u8 {
@@ -511,6 +687,36 @@ fn each_fault_is_found() {
         Fault::PointNearAnEndTakesARoot,
         Fault::NoRootsReported,
         Fault::ThreeWordsAreRoom,
+        Fault::LimitIgnored(Call::SegArcRadiusAndCenter),
+        Fault::LimitIgnored(Call::SegSplitAtPoint),
+        Fault::LimitIgnored(Call::SegTangentVector),
+        Fault::LimitIgnored(Call::SegClosestPoint),
+        Fault::LimitIgnored(Call::SegDistanceIsGreaterThan),
+        Fault::LimitIgnored(Call::SegBoundingBox),
+        Fault::LimitIgnored(Call::SegMidpoint),
+        Fault::LimitIgnored(Call::ViewCreate),
+        Fault::LimitIgnored(Call::ViewFromNewStart),
+        Fault::LimitIgnored(Call::ViewValidate),
+        Fault::LimitIgnored(Call::ViewMark),
+        Fault::LimitInALinesEndTest,
+        Fault::LimitInALinesEndTestOfDistance,
+        Fault::LimitInTheTestOfAnArcsEnds,
+        Fault::LimitInTheBoxOfAnArcsEnds,
+        Fault::GreatestLimitRefused,
+        Fault::LeastLimitRefused,
+        Fault::NanLimitAccepted,
+        Fault::LimitRefusedBeforeNumber,
+        Fault::LimitRefusedBeforePoint,
+        Fault::LimitRefusedAfterNoArc,
+        Fault::LimitRefusedAfterOpen,
+        Fault::LimitRefusedAfterTraverse,
+        Fault::LimitRefusedAfterIndex,
+        Fault::LimitRefusedAfterVerdictOne,
+        Fault::LimitRefusedAfterVerdictTwo,
+        Fault::LimitRefusedAfterIndexOfARecord,
+        Fault::LimitRefusedAfterRoom,
+        Fault::LimitRefusedBeforeDirection,
+        Fault::RootsOfTheDefaultLimit,
     ] {
         let calls = found_within(fault);
         println!("{fault:?}: found within {calls:?} calls");
@@ -524,6 +730,9 @@ fn each_fault_in_rows_of_splits_is_found() {
         Fault::SplitAnUlpOverTheHalfCircle,
         Fault::SplitHalfCircleRefused,
         Fault::SplitTurnedBack,
+        Fault::LimitIgnored(Call::SegSplitAtPoint),
+        Fault::GreatestLimitRefused,
+        Fault::NanLimitAccepted,
     ] {
         let mut report = Report::default();
         compare_splits(&Spoilt(fault), 3, 10_000, &mut report);

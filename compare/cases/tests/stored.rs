@@ -1,9 +1,12 @@
 //! The stored list: large enough, over every call and refusal, and the same each time. What the repository stores of
 //! the oracle's answers is what the oracle answers now.
 
-use cases::case::Call;
+use cases::case::{Call, Case};
 use cases::repository;
-use cases::stored::{Q, all, files, gap, long, numbered, rooted, roots, round, turned};
+use cases::stored::{
+    Q, all, files, gap, limited, limits, limits_refused, long, numbered, rooted, roots, round,
+    turned,
+};
 use oracle::Oracle;
 use oracle::sheet::sheet_text;
 use std::fs;
@@ -221,6 +224,108 @@ fn the_list_counts_roots() {
     ];
     assert_eq!(words.collect::<Vec<_>>(), expected);
     assert_eq!(cases[12].run(&Oracle).refusal, 8);
+}
+
+/// The words of an answer as numbers.
+fn as_numbers(case: &Case) -> Option<Vec<f64>> {
+    let outcome = case.run(&Oracle);
+    let words = outcome.written(case.call).into_iter();
+    (outcome.refusal == 0).then(|| words.map(f64::from_bits).collect())
+}
+
+/// Whether numbers are the expected ones, but for what rounding does beside a centre that is 1e7 off.
+fn near(found: &[f64], expected: &[f64]) -> bool {
+    let near = |(a, b): (&f64, &f64)| (a - b).abs() <= 4e-9 + 1e-12 * b.abs();
+    found.len() == expected.len() && found.iter().zip(expected).all(near)
+}
+
+/// The traced arcs as arcs and as lines, by hand. The first one's radius is 4 / (4 * 1e-7), and at its start the tangent is as
+/// long as that and falls by 2e-7 of it. A quarter of the way along the arc is a quarter of its bulge. The other bows 4000 times
+/// half its bulge below its line, which is 0.002 and more than a point may be off.
+#[test]
+fn the_list_makes_arcs_lines() {
+    let cases = limited();
+    assert!(all().windows(cases.len()).any(|part| part == cases));
+    let (arcs, lines) = cases.split_at(cases.len() / 2);
+    let numbers = |cases: &[Case]| cases[..7].iter().map(as_numbers).collect::<Vec<_>>();
+    let arc: [&[f64]; 7] = [
+        &[1e7, 2.0, 1e7],
+        &[0.0, 0.0, 2.5e-8, 1.0, 0.0, 7.5e-8],
+        &[1e7, -2.0],
+        &[2.0, -2e-7],
+        &[f64::from_bits(0)],
+        &[0.0, -2e-7, 4.0, 0.0],
+        &[2.0, -2e-7],
+    ];
+    for (k, (found, expected)) in numbers(arcs).iter().zip(arc).enumerate() {
+        assert!(near(found.as_ref().unwrap(), expected), "{k}: {found:?}");
+    }
+    let line: [Option<&[f64]>; 7] = [
+        None,
+        Some(&[0.0, 0.0, 1e-7, 1.0, 0.0, 0.0]),
+        Some(&[4.0, 0.0]),
+        Some(&[2.0, 0.0]),
+        Some(&[f64::from_bits(1)]),
+        Some(&[0.0, 0.0, 4.0, 0.0]),
+        Some(&[2.0, 0.0]),
+    ];
+    for (found, expected) in numbers(lines).iter().zip(line) {
+        assert_eq!(found.as_deref(), expected);
+    }
+
+    // A record's bulges are its words 3 and 4.
+    let bulges = |case: &Case| {
+        let numbers = as_numbers(case).unwrap();
+        [numbers[3], numbers[4]]
+    };
+    let near_to = |found: [f64; 2], expected: [f64; 2]| {
+        (0..2).all(|k| (found[k] - expected[k]).abs() <= 1e-12 * expected[k])
+    };
+    assert!(near_to(bulges(&arcs[7]), [0.0, 2.5e-8]));
+    assert!(near_to(bulges(&arcs[8]), [7.5e-8, 2.5e-8]));
+    assert_eq!(bulges(&lines[7]), [0.0, 1e-7]);
+    assert_eq!(bulges(&lines[8]), [0.0, 1e-7]);
+
+    let verdicts = |cases: &[Case]| {
+        let words = |case: &Case| case.run(&Oracle).written(case.call);
+        let [first, low, cut_low, straight, cut_straight] =
+            [9, 10, 11, 12, 13].map(|k| words(&cases[k]));
+        let with_roots = [first, low, straight].map(|words| [words[0], words[3]]);
+        (with_roots, [cut_low[0], cut_straight[0]])
+    };
+    assert_eq!(verdicts(arcs), ([[7, 2], [7, 1], [3, 1]], [1, 0]));
+    assert_eq!(verdicts(lines), ([[7, 0], [3, 0], [7, 0]], [0, 1]));
+}
+
+/// The limit itself and what it is not for, by hand: a bulge of the limit is an arc, and all other tests keep 1e-8.
+#[test]
+fn the_list_is_strict_at_the_limit() {
+    let cases = limits();
+    assert!(all().windows(cases.len()).any(|part| part == cases));
+    let refusals = cases.iter().map(|case| case.run(&Oracle).refusal);
+    let expected = [0, 0, 6, 0, 0, 6, 0, 0, 6, 0, 0, 0, 0, 0, 0, 6];
+    assert_eq!(refusals.collect::<Vec<u8>>(), expected);
+    let numbers = |k: usize| as_numbers(&cases[k]).unwrap();
+    assert_eq!(numbers(9), [1e-7, 0.0]);
+    assert_eq!(numbers(11), [1.0 - 1e-7, 0.0]);
+    // The line is exactly 1 off, which is not more than 1.
+    for k in [10, 12] {
+        assert_eq!(cases[k].run(&Oracle).written(cases[k].call), [0]);
+    }
+    assert_eq!(numbers(13), [5e-7, 5e-7, 0.0]);
+    assert_eq!(numbers(14), [0.0, -5e-7, 1e-6, 0.0]);
+}
+
+/// The limit's refusal, by hand: 2 after 11, 12, 3 and 1, and before all else.
+#[test]
+fn the_list_refuses_limits() {
+    let cases = limits_refused();
+    assert!(all().windows(cases.len()).any(|part| part == cases));
+    let refusals: Vec<u8> = cases.iter().map(|case| case.run(&Oracle).refusal).collect();
+    let (range, order) = refusals.split_at(6 * 11);
+    let range: Vec<&[u8]> = range.chunks(11).collect();
+    assert_eq!(range, [0, 0, 2, 2, 2, 1].map(|refusal| [refusal; 11]));
+    assert_eq!(order, [3, 2, 2, 2, 2, 2, 2, 2, 2, 2, 11, 12, 2, 8]);
 }
 
 #[test]

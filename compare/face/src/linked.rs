@@ -16,6 +16,7 @@ unsafe extern "C" {
     fn bf_seg_arc_radius_and_center(
         seg: *const f64,
         seg_len: usize,
+        line_limit: f64,
         out: *mut f64,
         out_len: usize,
     ) -> Refusal;
@@ -25,6 +26,7 @@ unsafe extern "C" {
         x: f64,
         y: f64,
         tolerance: f64,
+        line_limit: f64,
         out: *mut f64,
         out_len: usize,
     ) -> Refusal;
@@ -33,6 +35,7 @@ unsafe extern "C" {
         seg_len: usize,
         x: f64,
         y: f64,
+        line_limit: f64,
         out: *mut f64,
         out_len: usize,
     ) -> Refusal;
@@ -42,6 +45,7 @@ unsafe extern "C" {
         x: f64,
         y: f64,
         tolerance: f64,
+        line_limit: f64,
         out: *mut f64,
         out_len: usize,
     ) -> Refusal;
@@ -52,16 +56,24 @@ unsafe extern "C" {
         y: f64,
         distance: f64,
         tolerance: f64,
+        line_limit: f64,
         out: *mut u8,
         out_len: usize,
     ) -> Refusal;
     fn bf_seg_bounding_box(
         seg: *const f64,
         seg_len: usize,
+        line_limit: f64,
         out: *mut f64,
         out_len: usize,
     ) -> Refusal;
-    fn bf_seg_midpoint(seg: *const f64, seg_len: usize, out: *mut f64, out_len: usize) -> Refusal;
+    fn bf_seg_midpoint(
+        seg: *const f64,
+        seg_len: usize,
+        line_limit: f64,
+        out: *mut f64,
+        out_len: usize,
+    ) -> Refusal;
     fn bf_view_create(
         outline: *const f64,
         outline_len: usize,
@@ -73,6 +85,7 @@ unsafe extern "C" {
         vertex_len: usize,
         traverse: u64,
         tolerance: f64,
+        line_limit: f64,
         out: *mut u8,
         out_len: usize,
     ) -> Refusal;
@@ -84,6 +97,7 @@ unsafe extern "C" {
         y: f64,
         start: u64,
         tolerance: f64,
+        line_limit: f64,
         out: *mut u8,
         out_len: usize,
     ) -> Refusal;
@@ -92,6 +106,7 @@ unsafe extern "C" {
         outline_len: usize,
         record: *const u8,
         record_len: usize,
+        line_limit: f64,
         whole: *mut u64,
         whole_len: usize,
         out: *mut f64,
@@ -103,6 +118,7 @@ unsafe extern "C" {
         closed: u8,
         record: *const u8,
         record_len: usize,
+        line_limit: f64,
         out: *mut u8,
         out_len: usize,
     ) -> Refusal;
@@ -172,9 +188,15 @@ impl Library for Bisquefern {
     }
 
     #[inline]
-    fn seg_arc_radius_and_center(&self, seg: &[f64], out: &mut [f64]) -> u8 {
+    fn seg_arc_radius_and_center(&self, seg: &[f64], line_limit: f64, out: &mut [f64]) -> u8 {
         unsafe {
-            bf_seg_arc_radius_and_center(seg.as_ptr(), seg.len(), out.as_mut_ptr(), out.len())
+            bf_seg_arc_radius_and_center(
+                seg.as_ptr(),
+                seg.len(),
+                line_limit,
+                out.as_mut_ptr(),
+                out.len(),
+            )
         }
     }
 
@@ -185,6 +207,7 @@ impl Library for Bisquefern {
         x: f64,
         y: f64,
         tolerance: f64,
+        line_limit: f64,
         out: &mut [f64],
     ) -> u8 {
         unsafe {
@@ -194,6 +217,7 @@ impl Library for Bisquefern {
                 x,
                 y,
                 tolerance,
+                line_limit,
                 out.as_mut_ptr(),
                 out.len(),
             )
@@ -201,8 +225,25 @@ impl Library for Bisquefern {
     }
 
     #[inline]
-    fn seg_tangent_vector(&self, seg: &[f64], x: f64, y: f64, out: &mut [f64]) -> u8 {
-        unsafe { bf_seg_tangent_vector(seg.as_ptr(), seg.len(), x, y, out.as_mut_ptr(), out.len()) }
+    fn seg_tangent_vector(
+        &self,
+        seg: &[f64],
+        x: f64,
+        y: f64,
+        line_limit: f64,
+        out: &mut [f64],
+    ) -> u8 {
+        unsafe {
+            bf_seg_tangent_vector(
+                seg.as_ptr(),
+                seg.len(),
+                x,
+                y,
+                line_limit,
+                out.as_mut_ptr(),
+                out.len(),
+            )
+        }
     }
 
     #[inline]
@@ -212,6 +253,7 @@ impl Library for Bisquefern {
         x: f64,
         y: f64,
         tolerance: f64,
+        line_limit: f64,
         out: &mut [f64],
     ) -> u8 {
         unsafe {
@@ -221,6 +263,7 @@ impl Library for Bisquefern {
                 x,
                 y,
                 tolerance,
+                line_limit,
                 out.as_mut_ptr(),
                 out.len(),
             )
@@ -235,6 +278,7 @@ impl Library for Bisquefern {
         y: f64,
         distance: f64,
         tolerance: f64,
+        line_limit: f64,
         out: &mut [u8],
     ) -> u8 {
         unsafe {
@@ -245,6 +289,7 @@ impl Library for Bisquefern {
                 y,
                 distance,
                 tolerance,
+                line_limit,
                 out.as_mut_ptr(),
                 out.len(),
             )
@@ -252,13 +297,29 @@ impl Library for Bisquefern {
     }
 
     #[inline]
-    fn seg_bounding_box(&self, seg: &[f64], out: &mut [f64]) -> u8 {
-        unsafe { bf_seg_bounding_box(seg.as_ptr(), seg.len(), out.as_mut_ptr(), out.len()) }
+    fn seg_bounding_box(&self, seg: &[f64], line_limit: f64, out: &mut [f64]) -> u8 {
+        unsafe {
+            bf_seg_bounding_box(
+                seg.as_ptr(),
+                seg.len(),
+                line_limit,
+                out.as_mut_ptr(),
+                out.len(),
+            )
+        }
     }
 
     #[inline]
-    fn seg_midpoint(&self, seg: &[f64], out: &mut [f64]) -> u8 {
-        unsafe { bf_seg_midpoint(seg.as_ptr(), seg.len(), out.as_mut_ptr(), out.len()) }
+    fn seg_midpoint(&self, seg: &[f64], line_limit: f64, out: &mut [f64]) -> u8 {
+        unsafe {
+            bf_seg_midpoint(
+                seg.as_ptr(),
+                seg.len(),
+                line_limit,
+                out.as_mut_ptr(),
+                out.len(),
+            )
+        }
     }
 
     #[inline]
@@ -272,6 +333,7 @@ impl Library for Bisquefern {
         vertex: &[f64],
         traverse: u64,
         tolerance: f64,
+        line_limit: f64,
         out: &mut [u8],
     ) -> u8 {
         unsafe {
@@ -286,6 +348,7 @@ impl Library for Bisquefern {
                 vertex.len(),
                 traverse,
                 tolerance,
+                line_limit,
                 out.as_mut_ptr(),
                 out.len(),
             )
@@ -301,6 +364,7 @@ impl Library for Bisquefern {
         y: f64,
         start: u64,
         tolerance: f64,
+        line_limit: f64,
         out: &mut [u8],
     ) -> u8 {
         unsafe {
@@ -312,6 +376,7 @@ impl Library for Bisquefern {
                 y,
                 start,
                 tolerance,
+                line_limit,
                 out.as_mut_ptr(),
                 out.len(),
             )
@@ -323,6 +388,7 @@ impl Library for Bisquefern {
         &self,
         outline: &[f64],
         record: &[u8],
+        line_limit: f64,
         whole: &mut [u64],
         out: &mut [f64],
     ) -> u8 {
@@ -332,6 +398,7 @@ impl Library for Bisquefern {
                 outline.len(),
                 record.as_ptr(),
                 record.len(),
+                line_limit,
                 whole.as_mut_ptr(),
                 whole.len(),
                 out.as_mut_ptr(),
@@ -341,7 +408,14 @@ impl Library for Bisquefern {
     }
 
     #[inline]
-    fn view_mark(&self, outline: &[f64], closed: u8, record: &[u8], out: &mut [u8]) -> u8 {
+    fn view_mark(
+        &self,
+        outline: &[f64],
+        closed: u8,
+        record: &[u8],
+        line_limit: f64,
+        out: &mut [u8],
+    ) -> u8 {
         unsafe {
             bf_view_mark(
                 outline.as_ptr(),
@@ -349,6 +423,7 @@ impl Library for Bisquefern {
                 closed,
                 record.as_ptr(),
                 record.len(),
+                line_limit,
                 out.as_mut_ptr(),
                 out.len(),
             )

@@ -162,8 +162,9 @@ impl Library for Bisquefern {
         numbers(Case::new(Call::Vertex).numbers(slice), out)
     }
 
-    fn seg_arc_radius_and_center(&self, seg: &[f64], out: &mut [f64]) -> u8 {
-        numbers(Case::new(Call::SegArcRadiusAndCenter).numbers(seg), out)
+    fn seg_arc_radius_and_center(&self, seg: &[f64], line_limit: f64, out: &mut [f64]) -> u8 {
+        let case = Case::new(Call::SegArcRadiusAndCenter).numbers(seg);
+        numbers(case.number(line_limit), out)
     }
 
     fn seg_split_at_point(
@@ -172,15 +173,24 @@ impl Library for Bisquefern {
         x: f64,
         y: f64,
         tolerance: f64,
+        line_limit: f64,
         out: &mut [f64],
     ) -> u8 {
         let case = Case::new(Call::SegSplitAtPoint).numbers(seg);
-        numbers(case.number(x).number(y).number(tolerance), out)
+        let case = case.number(x).number(y);
+        numbers(case.number(tolerance).number(line_limit), out)
     }
 
-    fn seg_tangent_vector(&self, seg: &[f64], x: f64, y: f64, out: &mut [f64]) -> u8 {
+    fn seg_tangent_vector(
+        &self,
+        seg: &[f64],
+        x: f64,
+        y: f64,
+        line_limit: f64,
+        out: &mut [f64],
+    ) -> u8 {
         let case = Case::new(Call::SegTangentVector).numbers(seg);
-        numbers(case.number(x).number(y), out)
+        numbers(case.number(x).number(y).number(line_limit), out)
     }
 
     fn seg_closest_point(
@@ -189,10 +199,12 @@ impl Library for Bisquefern {
         x: f64,
         y: f64,
         tolerance: f64,
+        line_limit: f64,
         out: &mut [f64],
     ) -> u8 {
         let case = Case::new(Call::SegClosestPoint).numbers(seg);
-        numbers(case.number(x).number(y).number(tolerance), out)
+        let case = case.number(x).number(y);
+        numbers(case.number(tolerance).number(line_limit), out)
     }
 
     fn seg_distance_is_greater_than(
@@ -202,19 +214,22 @@ impl Library for Bisquefern {
         y: f64,
         distance: f64,
         tolerance: f64,
+        line_limit: f64,
         out: &mut [u8],
     ) -> u8 {
         let case = Case::new(Call::SegDistanceIsGreaterThan).numbers(seg);
-        let case = case.number(x).number(y);
-        byte(case.number(distance).number(tolerance), out)
+        let case = case.number(x).number(y).number(distance);
+        byte(case.number(tolerance).number(line_limit), out)
     }
 
-    fn seg_bounding_box(&self, seg: &[f64], out: &mut [f64]) -> u8 {
-        numbers(Case::new(Call::SegBoundingBox).numbers(seg), out)
+    fn seg_bounding_box(&self, seg: &[f64], line_limit: f64, out: &mut [f64]) -> u8 {
+        let case = Case::new(Call::SegBoundingBox).numbers(seg);
+        numbers(case.number(line_limit), out)
     }
 
-    fn seg_midpoint(&self, seg: &[f64], out: &mut [f64]) -> u8 {
-        numbers(Case::new(Call::SegMidpoint).numbers(seg), out)
+    fn seg_midpoint(&self, seg: &[f64], line_limit: f64, out: &mut [f64]) -> u8 {
+        let case = Case::new(Call::SegMidpoint).numbers(seg);
+        numbers(case.number(line_limit), out)
     }
 
     fn view_create(
@@ -227,11 +242,13 @@ impl Library for Bisquefern {
         vertex: &[f64],
         traverse: u64,
         tolerance: f64,
+        line_limit: f64,
         out: &mut [u8],
     ) -> u8 {
         let case = Case::new(Call::ViewCreate).numbers(outline).whole(start);
         let case = case.number(x).number(y).whole(intersect).numbers(vertex);
-        record(case.whole(traverse).number(tolerance), out)
+        let case = case.whole(traverse).number(tolerance);
+        record(case.number(line_limit), out)
     }
 
     fn view_from_new_start(
@@ -242,22 +259,25 @@ impl Library for Bisquefern {
         y: f64,
         start: u64,
         tolerance: f64,
+        line_limit: f64,
         out: &mut [u8],
     ) -> u8 {
         let case = Case::new(Call::ViewFromNewStart).numbers(outline);
         let case = case.whole(u64::from(closed)).number(x).number(y);
-        record(case.whole(start).number(tolerance), out)
+        let case = case.whole(start).number(tolerance);
+        record(case.number(line_limit), out)
     }
 
     fn view_validate(
         &self,
         outline: &[f64],
         record: &[u8],
+        line_limit: f64,
         whole: &mut [u64],
         out: &mut [f64],
     ) -> u8 {
         let case = Case::new(Call::ViewValidate).numbers(outline);
-        let case = wholes_room(case.bytes(record), whole);
+        let case = wholes_room(case.bytes(record).number(line_limit), whole);
         let (refusal, words) = ask(numbers_room(case, out));
         let (wholes, numbers) = words.split_at(words.len().min(4));
         copy_wholes(wholes, whole);
@@ -265,9 +285,17 @@ impl Library for Bisquefern {
         refusal
     }
 
-    fn view_mark(&self, outline: &[f64], closed: u8, record: &[u8], out: &mut [u8]) -> u8 {
+    fn view_mark(
+        &self,
+        outline: &[f64],
+        closed: u8,
+        record: &[u8],
+        line_limit: f64,
+        out: &mut [u8],
+    ) -> u8 {
         let case = Case::new(Call::ViewMark).numbers(outline);
-        byte(case.whole(u64::from(closed)).bytes(record), out)
+        let case = case.whole(u64::from(closed)).bytes(record);
+        byte(case.number(line_limit), out)
     }
 
     fn view_count(&self, outline: &[f64], record: &[u8], out: &mut [u64]) -> u8 {

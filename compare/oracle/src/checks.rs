@@ -5,6 +5,9 @@ use crate::{PlineVertex, PlineViewData, Vector2, refusal};
 /// The vertex limit of an outline.
 pub const MOST_VERTICES: usize = 2000;
 
+/// The published text's own line limit, which is the default: a bulge of a magnitude below it is zero.
+pub const LINE_LIMIT: f64 = 1e-8;
+
 /// `Ok` when a check holds, else its refusal.
 pub fn check(holds: bool, refusal: u8) -> Result<(), u8> {
     if holds { Ok(()) } else { Err(refusal) }
@@ -44,4 +47,9 @@ pub fn outline_in_range(numbers: &[f64]) -> bool {
 /// Refusal 2.
 pub fn tolerance(tolerance: f64) -> Result<(), u8> {
     check((1e-8..=1.0).contains(&tolerance), refusal::TOLERANCE)
+}
+
+/// Refusal 2 too, after the tolerance's.
+pub fn line_limit(limit: f64) -> Result<(), u8> {
+    check((LINE_LIMIT..=1e-3).contains(&limit), refusal::TOLERANCE)
 }

@@ -1,16 +1,18 @@
 //! The judge: document 01's calls over the published text.
 //!
-//! Each call makes document 01's checks in its order and then asks the published text. Reversal, trim, the
-//! listing and the job sheet are additions of document 01, not in the text; they are written here from its
-//! sentences. Nothing here comes from the library that is judged.
+//! Each call makes document 01's checks in its order and then asks the published text, at a line limit other than the
+//! default over numbers whose zero test has that limit. Reversal, trim, the listing and the job sheet are additions
+//! of document 01, not in the text; they are written here from its sentences. Nothing here comes from the library
+//! that is judged.
 #![forbid(unsafe_code)]
 
 mod checks;
 mod library;
+mod limited;
+mod number;
 pub mod plain;
 pub mod record;
 pub mod refusal;
-mod roots;
 pub mod segment;
 pub mod sheet;
 pub mod view;
@@ -20,7 +22,10 @@ pub use cavalier_contours::{
     core::math::Vector2,
     polyline::{PlineVertex, PlineViewData, SplitResult, ViewDataValidation},
 };
+pub use checks::LINE_LIMIT;
 pub use library::{Library, Oracle};
+#[doc(hidden)]
+pub use limited::all_default;
 
 const _: () = assert!(usize::BITS == 64, "indexes are taken as 64 bits");
 

@@ -1,28 +1,45 @@
 //! The library's face: the functions on numbers and slices that are compared, and the oracle's answers to them.
 
 use crate::checks::check;
+use crate::number::at_limit;
 use crate::record::{cut_number, decode, encode};
 use crate::{AABB, PlineViewData, Vector2, ViewDataValidation, refusal, segment, view};
 
 /// The calls of the C face, with slices in place of pointers. Each answers 0 where it answers, else document
 /// 01's refusal number, and then has written nothing. A record is the job sheet's 64 bytes; another length is
-/// refused 11 and a bad direction 12, before anything else. A short answer buffer is refused 8, last.
+/// refused 11 and a bad direction 12, before anything else. A short answer buffer is refused 8, last. `line_limit` is the
+/// magnitude of a bulge from which a segment is an arc.
 #[allow(clippy::too_many_arguments)]
 pub trait Library {
     fn sqrt(&self, x: f64, out: &mut [f64]) -> u8;
     fn vertex(&self, numbers: &[f64], out: &mut [f64]) -> u8;
-    fn seg_arc_radius_and_center(&self, seg: &[f64], out: &mut [f64]) -> u8;
+    fn seg_arc_radius_and_center(&self, seg: &[f64], line_limit: f64, out: &mut [f64]) -> u8;
     fn seg_split_at_point(
         &self,
         seg: &[f64],
         x: f64,
         y: f64,
         tolerance: f64,
+        line_limit: f64,
         out: &mut [f64],
     ) -> u8;
-    fn seg_tangent_vector(&self, seg: &[f64], x: f64, y: f64, out: &mut [f64]) -> u8;
-    fn seg_closest_point(&self, seg: &[f64], x: f64, y: f64, tolerance: f64, out: &mut [f64])
-    -> u8;
+    fn seg_tangent_vector(
+        &self,
+        seg: &[f64],
+        x: f64,
+        y: f64,
+        line_limit: f64,
+        out: &mut [f64],
+    ) -> u8;
+    fn seg_closest_point(
+        &self,
+        seg: &[f64],
+        x: f64,
+        y: f64,
+        tolerance: f64,
+        line_limit: f64,
+        out: &mut [f64],
+    ) -> u8;
     fn seg_distance_is_greater_than(
         &self,
         seg: &[f64],
@@ -30,10 +47,11 @@ pub trait Library {
         y: f64,
         distance: f64,
         tolerance: f64,
+        line_limit: f64,
         out: &mut [u8],
     ) -> u8;
-    fn seg_bounding_box(&self, seg: &[f64], out: &mut [f64]) -> u8;
-    fn seg_midpoint(&self, seg: &[f64], out: &mut [f64]) -> u8;
+    fn seg_bounding_box(&self, seg: &[f64], line_limit: f64, out: &mut [f64]) -> u8;
+    fn seg_midpoint(&self, seg: &[f64], line_limit: f64, out: &mut [f64]) -> u8;
     fn view_create(
         &self,
         outline: &[f64],
@@ -44,6 +62,7 @@ pub trait Library {
         vertex: &[f64],
         traverse: u64,
         tolerance: f64,
+        line_limit: f64,
         out: &mut [u8],
     ) -> u8;
     fn view_from_new_start(
@@ -54,6 +73,7 @@ pub trait Library {
         y: f64,
         start: u64,
         tolerance: f64,
+        line_limit: f64,
         out: &mut [u8],
     ) -> u8;
     /// Writes to `whole` the verdict, for verdict 2 the offset and the vertex count, and the square roots that the
@@ -63,10 +83,18 @@ pub trait Library {
         &self,
         outline: &[f64],
         record: &[u8],
+        line_limit: f64,
         whole: &mut [u64],
         out: &mut [f64],
     ) -> u8;
-    fn view_mark(&self, outline: &[f64], closed: u8, record: &[u8], out: &mut [u8]) -> u8;
+    fn view_mark(
+        &self,
+        outline: &[f64],
+        closed: u8,
+        record: &[u8],
+        line_limit: f64,
+        out: &mut [u8],
+    ) -> u8;
     fn view_count(&self, outline: &[f64], record: &[u8], out: &mut [u64]) -> u8;
     fn view_get(&self, outline: &[f64], record: &[u8], position: u64, out: &mut [f64]) -> u8;
     fn view_list(&self, outline: &[f64], record: &[u8], out: &mut [f64], count: &mut [u64]) -> u8;
@@ -146,13 +174,14 @@ impl Oracle {
         &self,
         outline: &[f64],
         record: &[u8],
+        line_limit: f64,
         whole: &mut [u64],
         out: &mut [f64],
     ) -> u8 {
-        reply(decode(record).and_then(|record| {
-            let verdict = view::validate(outline, &record)?;
+        at_limit!(line_limit, |T| reply(decode(record).and_then(|record| {
+            let verdict = view::validate_over::<T>(outline, &record, line_limit)?;
             give_verdict(&verdict, 0, whole, out)
-        }))
+        })))
     }
 }
 
@@ -169,11 +198,11 @@ impl Library for Oracle {
     }
 
     #[inline(never)]
-    fn seg_arc_radius_and_center(&self, seg: &[f64], out: &mut [f64]) -> u8 {
-        reply(
-            segment::seg_arc_radius_and_center(seg)
-                .and_then(|(radius, center)| give([radius, center.x, center.y], out)),
-        )
+    fn seg_arc_radius_and_center(&self, seg: &[f64], line_limit: f64, out: &mut [f64]) -> u8 {
+        at_limit!(line_limit, |T| {
+            let answer = segment::seg_arc_radius_and_center_over::<T>(seg, line_limit);
+            reply(answer.and_then(|(radius, center)| give([radius, center.x, center.y], out)))
+        })
     }
 
     #[inline(never)]
@@ -183,22 +212,33 @@ impl Library for Oracle {
         x: f64,
         y: f64,
         tolerance: f64,
+        line_limit: f64,
         out: &mut [f64],
     ) -> u8 {
-        reply(
-            segment::seg_split_at_point(seg, Vector2::new(x, y), tolerance).and_then(|split| {
+        let p = Vector2::new(x, y);
+        at_limit!(line_limit, |T| {
+            let answer = segment::seg_split_at_point_over::<T>(seg, p, tolerance, line_limit);
+            reply(answer.and_then(|split| {
                 let (v1, v2) = (split.updated_start, split.split_vertex);
                 give([v1.x, v1.y, v1.bulge, v2.x, v2.y, v2.bulge], out)
-            }),
-        )
+            }))
+        })
     }
 
     #[inline(never)]
-    fn seg_tangent_vector(&self, seg: &[f64], x: f64, y: f64, out: &mut [f64]) -> u8 {
-        reply(
-            segment::seg_tangent_vector(seg, Vector2::new(x, y))
-                .and_then(|p| give([p.x, p.y], out)),
-        )
+    fn seg_tangent_vector(
+        &self,
+        seg: &[f64],
+        x: f64,
+        y: f64,
+        line_limit: f64,
+        out: &mut [f64],
+    ) -> u8 {
+        let p = Vector2::new(x, y);
+        at_limit!(line_limit, |T| {
+            let answer = segment::seg_tangent_vector_over::<T>(seg, p, line_limit);
+            reply(answer.and_then(|p| give([p.x, p.y], out)))
+        })
     }
 
     #[inline(never)]
@@ -208,12 +248,14 @@ impl Library for Oracle {
         x: f64,
         y: f64,
         tolerance: f64,
+        line_limit: f64,
         out: &mut [f64],
     ) -> u8 {
-        reply(
-            segment::seg_closest_point(seg, Vector2::new(x, y), tolerance)
-                .and_then(|p| give([p.x, p.y], out)),
-        )
+        let p = Vector2::new(x, y);
+        at_limit!(line_limit, |T| {
+            let answer = segment::seg_closest_point_over::<T>(seg, p, tolerance, line_limit);
+            reply(answer.and_then(|p| give([p.x, p.y], out)))
+        })
     }
 
     #[inline(never)]
@@ -224,22 +266,32 @@ impl Library for Oracle {
         y: f64,
         distance: f64,
         tolerance: f64,
+        line_limit: f64,
         out: &mut [u8],
     ) -> u8 {
-        reply(
-            segment::seg_distance_is_greater_than(seg, Vector2::new(x, y), distance, tolerance)
-                .and_then(|greater| give([u8::from(greater)], out)),
-        )
+        let p = Vector2::new(x, y);
+        at_limit!(line_limit, |T| {
+            let answer = segment::seg_distance_is_greater_than_over::<T>(
+                seg, p, distance, tolerance, line_limit,
+            );
+            reply(answer.and_then(|greater| give([u8::from(greater)], out)))
+        })
     }
 
     #[inline(never)]
-    fn seg_bounding_box(&self, seg: &[f64], out: &mut [f64]) -> u8 {
-        reply(segment::seg_bounding_box(seg).and_then(|aabb| give(corners(aabb), out)))
+    fn seg_bounding_box(&self, seg: &[f64], line_limit: f64, out: &mut [f64]) -> u8 {
+        at_limit!(line_limit, |T| {
+            let answer = segment::seg_bounding_box_over::<T>(seg, line_limit);
+            reply(answer.and_then(|aabb| give(corners(aabb), out)))
+        })
     }
 
     #[inline(never)]
-    fn seg_midpoint(&self, seg: &[f64], out: &mut [f64]) -> u8 {
-        reply(segment::seg_midpoint(seg).and_then(|p| give([p.x, p.y], out)))
+    fn seg_midpoint(&self, seg: &[f64], line_limit: f64, out: &mut [f64]) -> u8 {
+        at_limit!(line_limit, |T| {
+            let answer = segment::seg_midpoint_over::<T>(seg, line_limit);
+            reply(answer.and_then(|p| give([p.x, p.y], out)))
+        })
     }
 
     #[inline(never)]
@@ -253,13 +305,16 @@ impl Library for Oracle {
         vertex: &[f64],
         traverse: u64,
         tolerance: f64,
+        line_limit: f64,
         out: &mut [u8],
     ) -> u8 {
         let end = Vector2::new(x, y);
-        reply(
-            view::create(outline, start, end, intersect, vertex, traverse, tolerance)
-                .and_then(|record| give_record(record, 0, out)),
-        )
+        at_limit!(line_limit, |T| {
+            let answer = view::create_over::<T>(
+                outline, start, end, intersect, vertex, traverse, tolerance, line_limit,
+            );
+            reply(answer.and_then(|record| give_record(record, 0, out)))
+        })
     }
 
     #[inline(never)]
@@ -271,12 +326,21 @@ impl Library for Oracle {
         y: f64,
         start: u64,
         tolerance: f64,
+        line_limit: f64,
         out: &mut [u8],
     ) -> u8 {
-        reply(
-            view::from_new_start(outline, closed != 0, Vector2::new(x, y), start, tolerance)
-                .and_then(|record| give_record(record, 0, out)),
-        )
+        let p = Vector2::new(x, y);
+        at_limit!(line_limit, |T| {
+            let answer = view::from_new_start_over::<T>(
+                outline,
+                closed != 0,
+                p,
+                start,
+                tolerance,
+                line_limit,
+            );
+            reply(answer.and_then(|record| give_record(record, 0, out)))
+        })
     }
 
     #[inline(never)]
@@ -284,21 +348,29 @@ impl Library for Oracle {
         &self,
         outline: &[f64],
         record: &[u8],
+        line_limit: f64,
         whole: &mut [u64],
         out: &mut [f64],
     ) -> u8 {
         reply(decode(record).and_then(|record| {
-            let (verdict, roots) = view::validate_counted(outline, &record)?;
+            let (verdict, roots) = view::validate_counted(outline, &record, line_limit)?;
             give_verdict(&verdict, roots, whole, out)
         }))
     }
 
     #[inline(never)]
-    fn view_mark(&self, outline: &[f64], closed: u8, record: &[u8], out: &mut [u8]) -> u8 {
-        reply(decode(record).and_then(|record| {
-            let cut = view::mark(outline, closed != 0, &record)?;
+    fn view_mark(
+        &self,
+        outline: &[f64],
+        closed: u8,
+        record: &[u8],
+        line_limit: f64,
+        out: &mut [u8],
+    ) -> u8 {
+        at_limit!(line_limit, |T| reply(decode(record).and_then(|record| {
+            let cut = view::mark_over::<T>(outline, closed != 0, &record, line_limit)?;
             give([u8::from(cut)], out)
-        }))
+        })))
     }
 
     #[inline(never)]

@@ -2,7 +2,7 @@
 
 /// A number is NaN, infinite or out of range.
 pub const NUMBER: u8 = 1;
-/// A tolerance is out of range or NaN.
+/// A tolerance or a line limit is out of range or NaN.
 pub const TOLERANCE: u8 = 2;
 /// The outline is not whole vertices, too long or too short; a vertex is not 3 numbers.
 pub const OUTLINE: u8 = 3;

@@ -1,9 +1,9 @@
-//! The job sheet, read from document 01's description, over the published text.
+//! The job sheet, read from document 01's description, over the published text at the default line limit.
 
 use crate::checks::{MOST_VERTICES, check, outline_in_range};
 use crate::record::{RECORD_BYTES, cut_number, f64_at, fields, u32_at, well_formed};
 use crate::view::{Outline, is_cut, validate_in, verdict_number, vertices};
-use crate::{AABB, PlineVertex, refusal};
+use crate::{AABB, LINE_LIMIT, PlineVertex, refusal};
 use cavalier_contours::polyline::{PlineSource, seg_bounding_box};
 use std::io::{self, Write};
 
@@ -128,7 +128,7 @@ impl<'a> Sheet<'a> {
         for (k, record) in self.records.chunks_exact(RECORD_BYTES).enumerate() {
             let cut_number = cut_number(record);
             let record = fields(record);
-            match validate_in(&outline, &record) {
+            match validate_in::<f64>(&outline, &record, LINE_LIMIT) {
                 Err(refusal) => writeln!(out, "view {k} refused {refusal}")?,
                 Ok(verdict) if is_cut(&outline, &record, &verdict) => {
                     let count = record.end_index_offset + 2;

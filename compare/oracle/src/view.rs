@@ -1,18 +1,21 @@
-//! The view calls. An outline is lent as numbers in threes: x, y, bulge.
+//! The view calls. An outline is lent as numbers in threes: x, y, bulge. What `.._over` means is said in `segment`.
 
 use crate::checks::{
-    MOST_VERTICES, check, outline_in_range, point_in_range, record_in_range, tolerance,
+    MOST_VERTICES, check, line_limit, outline_in_range, point_in_range, record_in_range, tolerance,
     vertex_in_range,
 };
-use crate::{PlineVertex, PlineViewData, Vector2, ViewDataValidation, refusal, roots};
-use cavalier_contours::core::traits::Real;
+use crate::limited::{Limited, run_at};
+use crate::number::{Number, at_limit, same_point, same_record, same_vertex};
+use crate::{PlineVertex, PlineViewData, Vector2, ViewDataValidation, refusal};
 use cavalier_contours::polyline::{PlineSource, PlineView, Polyline};
+use std::marker::PhantomData;
 
-/// A lent outline, as the published text reads one.
+/// A lent outline, as the published text reads one over numbers of this type.
 #[derive(Debug, Clone, Copy)]
-pub struct Outline<'a> {
+pub(crate) struct Outline<'a, T = f64> {
     numbers: &'a [f64],
     closed: bool,
+    read_as: PhantomData<T>,
 }
 
 impl<'a> Outline<'a> {
@@ -23,13 +26,26 @@ impl<'a> Outline<'a> {
             numbers.len().is_multiple_of(3) && (least..=MOST_VERTICES).contains(&vertices),
             refusal::OUTLINE,
         )?;
-        Ok(Outline { numbers, closed })
+        Ok(Outline {
+            numbers,
+            closed,
+            read_as: PhantomData,
+        })
+    }
+
+    /// The same outline, read over numbers of another type.
+    fn over<T>(&self) -> Outline<'a, T> {
+        Outline {
+            numbers: self.numbers,
+            closed: self.closed,
+            read_as: PhantomData,
+        }
     }
 }
 
-impl PlineSource for Outline<'_> {
-    type Num = f64;
-    type OutputPolyline = Polyline;
+impl<T: Number> PlineSource for Outline<'_, T> {
+    type Num = T;
+    type OutputPolyline = Polyline<T>;
 
     fn get_userdata_count(&self) -> usize {
         0
@@ -47,17 +63,18 @@ impl PlineSource for Outline<'_> {
         self.closed
     }
 
-    fn get(&self, index: usize) -> Option<PlineVertex> {
+    fn get(&self, index: usize) -> Option<PlineVertex<T>> {
         (index < self.vertex_count()).then(|| self.at(index))
     }
 
-    fn at(&self, index: usize) -> PlineVertex {
+    fn at(&self, index: usize) -> PlineVertex<T> {
         let v = &self.numbers[3 * index..3 * index + 3];
-        PlineVertex::new(v[0], v[1], v[2])
+        PlineVertex::new(T::of(v[0]), T::of(v[1]), T::of(v[2]))
     }
 }
 
 /// `create`: 3, 1, 2, 5 for a traverse count of 0, 4, 5 for the resulting offset.
+#[allow(clippy::too_many_arguments)]
 pub fn create(
     outline: &[f64],
     start: u64,
@@ -66,6 +83,24 @@ pub fn create(
     vertex: &[f64],
     traverse: u64,
     eps: f64,
+    limit: f64,
+) -> Result<PlineViewData, u8> {
+    at_limit!(limit, |T| create_over::<T>(
+        outline, start, end, intersect, vertex, traverse, eps, limit
+    ))
+}
+
+#[allow(clippy::too_many_arguments)]
+#[inline]
+pub(crate) fn create_over<T: Number>(
+    outline: &[f64],
+    start: u64,
+    end: Vector2,
+    intersect: u64,
+    vertex: &[f64],
+    traverse: u64,
+    eps: f64,
+    limit: f64,
 ) -> Result<PlineViewData, u8> {
     let source = Outline::new(outline, false, 2)?;
     let updated_start = PlineVertex::from_slice(vertex).ok_or(refusal::OUTLINE)?;
@@ -74,18 +109,19 @@ pub fn create(
         refusal::NUMBER,
     )?;
     tolerance(eps)?;
+    line_limit(limit)?;
     check(traverse != 0, refusal::OFFSET)?;
     let count = source.vertex_count() as u64;
     check(start < count && intersect < count, refusal::INDEX)?;
-    let record = PlineViewData::create(
-        &source,
+    let record: PlineViewData = same_record(PlineViewData::create(
+        &source.over(),
         start as usize,
-        end,
+        same_point(end),
         intersect as usize,
-        updated_start,
+        same_vertex(updated_start),
         traverse as usize,
-        eps,
-    );
+        T::of(eps),
+    ));
     check(
         record.end_index_offset <= source.vertex_count(),
         refusal::OFFSET,
@@ -100,6 +136,21 @@ pub fn from_new_start(
     point: Vector2,
     start: u64,
     eps: f64,
+    limit: f64,
+) -> Result<PlineViewData, u8> {
+    at_limit!(limit, |T| from_new_start_over::<T>(
+        outline, closed, point, start, eps, limit
+    ))
+}
+
+#[inline]
+pub(crate) fn from_new_start_over<T: Number>(
+    outline: &[f64],
+    closed: bool,
+    point: Vector2,
+    start: u64,
+    eps: f64,
+    limit: f64,
 ) -> Result<PlineViewData, u8> {
     let source = Outline::new(outline, closed, 2)?;
     check(
@@ -107,43 +158,66 @@ pub fn from_new_start(
         refusal::NUMBER,
     )?;
     tolerance(eps)?;
+    line_limit(limit)?;
     check(closed, refusal::OPEN)?;
     check(start < source.vertex_count() as u64, refusal::INDEX)?;
-    let record = PlineViewData::from_new_start(&source, point, start as usize, eps);
-    Ok(record.expect("the published text answers for a closed outline"))
+    let (source, point) = (source.over(), same_point(point));
+    let record = PlineViewData::from_new_start(&source, point, start as usize, T::of(eps));
+    let record = record.expect("the published text answers for a closed outline");
+    Ok(same_record(record))
 }
 
-/// Validation: 3 (not for under two vertices), 1, verdicts 1 and 2, then 4, then verdicts 3 to 7.
-pub fn validate(outline: &[f64], record: &PlineViewData) -> Result<ViewDataValidation<f64>, u8> {
+/// Validation: 3 (not for under two vertices), 1, 2, verdicts 1 and 2, then 4, then verdicts 3 to 7.
+pub fn validate(
+    outline: &[f64],
+    record: &PlineViewData,
+    limit: f64,
+) -> Result<ViewDataValidation<f64>, u8> {
+    at_limit!(limit, |T| validate_over::<T>(outline, record, limit))
+}
+
+#[inline]
+pub(crate) fn validate_over<T: Number>(
+    outline: &[f64],
+    record: &PlineViewData,
+    limit: f64,
+) -> Result<ViewDataValidation<f64>, u8> {
     let source = Outline::new(outline, false, 0)?;
     check(outline_in_range(outline), refusal::NUMBER)?;
-    validate_in(&source, record)
+    validate_in::<T>(&source, record, limit)
 }
 
-/// Validation, and how many square roots the published text takes for the verdict.
+/// Validation, and how many square roots the published text takes for the verdict. Plain f64 does not count them, so at the
+/// default limit too they are those of `Limited` numbers, over which the verdict must have the same number.
 pub fn validate_counted(
     outline: &[f64],
     record: &PlineViewData,
+    limit: f64,
 ) -> Result<(ViewDataValidation<f64>, u64), u8> {
-    let verdict = validate(outline, record)?;
-    let taken = roots::taken(&Outline::new(outline, false, 0)?, record, &verdict);
-    Ok((verdict, taken))
+    let verdict = validate(outline, record, limit)?;
+    let (again, roots) = run_at(limit, || validate_over::<Limited>(outline, record, limit));
+    assert_eq!(verdict_number(&again?), verdict_number(&verdict));
+    Ok((verdict, roots))
 }
 
 /// Validation on an outline that is in range.
-pub(crate) fn validate_in(
+#[inline]
+pub(crate) fn validate_in<T: Number>(
     source: &Outline,
     record: &PlineViewData,
+    limit: f64,
 ) -> Result<ViewDataValidation<f64>, u8> {
     check(record_in_range(record), refusal::NUMBER)?;
+    line_limit(limit)?;
     let count = source.vertex_count();
     let verdict_1_or_2 = count < 2 || record.end_index_offset > count;
     check(verdict_1_or_2 || record.start_index < count, refusal::INDEX)?;
-    Ok(record.validate_for_source(source))
+    let record: PlineViewData<T> = same_record(*record);
+    Ok(T::plain_verdict(record.validate_for_source(&source.over())))
 }
 
 /// A verdict's number: 1 to 7, in the order of `ViewDataValidation`.
-pub fn verdict_number<T: Real>(verdict: &ViewDataValidation<T>) -> u8 {
+pub fn verdict_number(verdict: &ViewDataValidation<f64>) -> u8 {
     match verdict {
         ViewDataValidation::SourceHasNoSegments => 1,
         ViewDataValidation::OffsetOutOfRange { .. } => 2,
@@ -156,8 +230,18 @@ pub fn verdict_number<T: Real>(verdict: &ViewDataValidation<T>) -> u8 {
 }
 
 /// The mark: cut when the verdict is 7, except across the gap of an open outline.
-pub fn mark(outline: &[f64], closed: bool, record: &PlineViewData) -> Result<bool, u8> {
-    let verdict = validate(outline, record)?;
+pub fn mark(outline: &[f64], closed: bool, record: &PlineViewData, limit: f64) -> Result<bool, u8> {
+    at_limit!(limit, |T| mark_over::<T>(outline, closed, record, limit))
+}
+
+#[inline]
+pub(crate) fn mark_over<T: Number>(
+    outline: &[f64],
+    closed: bool,
+    record: &PlineViewData,
+    limit: f64,
+) -> Result<bool, u8> {
+    let verdict = validate_over::<T>(outline, record, limit)?;
     let source = Outline::new(outline, closed, 0)?;
     Ok(is_cut(&source, record, &verdict))
 }

@@ -1,4 +1,5 @@
-//! The files of `text/` are the published ones: each has the SHA-256 that `SHA256SUMS` names.
+//! The files of `text/` are the published ones: each has the SHA-256 that `SHA256SUMS` names. Of what is compiled one line
+//! tests a number for zero.
 
 use std::{fs, path::Path};
 
@@ -18,6 +19,38 @@ fn the_text_is_unchanged() {
         files += 1;
     }
     assert_eq!(files, 9);
+}
+
+/// The line limit is a number type's zero test: of what is compiled only the test of a bulge may ask it.
+#[test]
+fn only_bulges_are_tested_for_zero() {
+    let root = Path::new(env!("CARGO_MANIFEST_DIR"));
+    let mut asked = Vec::new();
+    for path in [
+        "text/core/math/vector2.rs",
+        "text/polyline/pline_seg.rs",
+        "text/polyline/pline_vertex.rs",
+        "text/polyline/pline_view.rs",
+        "src/core/math/base_math.rs",
+        "src/polyline/source.rs",
+    ] {
+        let text = fs::read_to_string(root.join(path)).unwrap();
+        let mut function = String::new();
+        for line in text.lines().map(str::trim) {
+            if let Some((_, rest)) = line.split_once("fn ") {
+                function = rest.split(['(', '<']).next().unwrap().to_string();
+            }
+            if !line.starts_with("//") && line.contains("fuzzy_eq_zero") {
+                asked.push((path, function.clone(), line.to_string()));
+            }
+        }
+    }
+    let bulge_is_zero = (
+        "text/polyline/pline_vertex.rs",
+        "bulge_is_zero".to_string(),
+        "self.bulge.fuzzy_eq_zero()".to_string(),
+    );
+    assert_eq!(asked, [bulge_is_zero]);
 }
 
 /// SHA-256 as FIPS 180-4 has it, in hex.

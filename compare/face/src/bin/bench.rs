@@ -1,7 +1,8 @@
 //! Times the library that is judged against the Rust text with document 01's checks, in one run: `bench`.
 //!
 //! For each row both sides make the same calls on the same prepared inputs, in turns; the median of the rounds
-//! counts. Neither side is inlined into the loop. Answer buffers are not cleared between calls.
+//! counts. Neither side is inlined into the loop. Answer buffers are not cleared between calls. The line limit is the default,
+//! at which the text is the published one over f64.
 
 use cases::case::Call;
 use cases::generate::Generator;
@@ -11,7 +12,7 @@ use cases::sheets::{largest_outline, sheet_program, whole_view};
 use cases::start::{numbers, or_end};
 use face::Bisquefern;
 use oracle::record::encode;
-use oracle::{Library, Oracle};
+use oracle::{LINE_LIMIT, Library, Oracle};
 use std::hint::black_box;
 use std::time::Instant;
 
@@ -119,12 +120,12 @@ fn validate_row<'a, C>(name: &str, cases: &'a [C], lend: impl Fn(&'a C) -> (&'a 
         |k, room| {
             let (outline, record) = lend(black_box(&cases[k]));
             let (wholes, numbers) = (&mut room.wholes, &mut room.numbers);
-            black_box(Bisquefern.view_validate(outline, record, wholes, numbers));
+            black_box(Bisquefern.view_validate(outline, record, LINE_LIMIT, wholes, numbers));
         },
         |k, room| {
             let (outline, record) = lend(black_box(&cases[k]));
             let (wholes, numbers) = (&mut room.wholes, &mut room.numbers);
-            black_box(Oracle.verdict(outline, record, wholes, numbers));
+            black_box(Oracle.verdict(outline, record, LINE_LIMIT, wholes, numbers));
         },
     )
 }
@@ -243,10 +244,16 @@ fn segments() {
             let seg = generator.segment(tolerance);
             let p = generator.point_beside(&seg, tolerance);
             let distance = generator.distance(&seg, p);
-            let is_arc = oracle::segment::seg_arc_radius_and_center(&seg).is_ok();
-            let answers =
-                Oracle.seg_distance_is_greater_than(&seg, p.x, p.y, distance, tolerance, &mut [0])
-                    == 0;
+            let is_arc = oracle::segment::seg_arc_radius_and_center(&seg, LINE_LIMIT).is_ok();
+            let answers = Oracle.seg_distance_is_greater_than(
+                &seg,
+                p.x,
+                p.y,
+                distance,
+                tolerance,
+                LINE_LIMIT,
+                &mut [0],
+            ) == 0;
             if answers && is_arc == (kind == "arcs") {
                 cases.push(PointCase {
                     seg,
@@ -263,17 +270,19 @@ fn segments() {
             row!(
                 &name(Call::SegArcRadiusAndCenter),
                 cases,
-                |library, c, room| { library.seg_arc_radius_and_center(&c.seg, &mut room.numbers) }
+                |library, c, room| {
+                    library.seg_arc_radius_and_center(&c.seg, LINE_LIMIT, &mut room.numbers)
+                }
             );
         }
         row!(&name(Call::SegSplitAtPoint), cases, |library, c, room| {
-            library.seg_split_at_point(&c.seg, c.x, c.y, c.tolerance, &mut room.numbers)
+            library.seg_split_at_point(&c.seg, c.x, c.y, c.tolerance, LINE_LIMIT, &mut room.numbers)
         });
         row!(&name(Call::SegTangentVector), cases, |library, c, room| {
-            library.seg_tangent_vector(&c.seg, c.x, c.y, &mut room.numbers)
+            library.seg_tangent_vector(&c.seg, c.x, c.y, LINE_LIMIT, &mut room.numbers)
         });
         row!(&name(Call::SegClosestPoint), cases, |library, c, room| {
-            library.seg_closest_point(&c.seg, c.x, c.y, c.tolerance, &mut room.numbers)
+            library.seg_closest_point(&c.seg, c.x, c.y, c.tolerance, LINE_LIMIT, &mut room.numbers)
         });
         row!(
             &name(Call::SegDistanceIsGreaterThan),
@@ -285,15 +294,16 @@ fn segments() {
                     c.y,
                     c.distance,
                     c.tolerance,
+                    LINE_LIMIT,
                     &mut room.bytes,
                 )
             }
         );
         row!(&name(Call::SegBoundingBox), cases, |library, c, room| {
-            library.seg_bounding_box(&c.seg, &mut room.numbers)
+            library.seg_bounding_box(&c.seg, LINE_LIMIT, &mut room.numbers)
         });
         row!(&name(Call::SegMidpoint), cases, |library, c, room| {
-            library.seg_midpoint(&c.seg, &mut room.numbers)
+            library.seg_midpoint(&c.seg, LINE_LIMIT, &mut room.numbers)
         });
     }
 }
@@ -315,7 +325,7 @@ fn views() {
     while cases.len() < CASES {
         let outline = generator.outline();
         let record = generator.record(&outline);
-        let valid = oracle::view::mark(&outline, true, &record) == Ok(true);
+        let valid = oracle::view::mark(&outline, true, &record, LINE_LIMIT) == Ok(true);
         if valid && oracle::view::reverse(&outline, &record).is_ok() {
             cases.push(ViewCase {
                 position: generator.random.bits() % (record.end_index_offset as u64 + 2),
@@ -345,6 +355,7 @@ fn views() {
             &c.vertex,
             c.traverse,
             1e-5,
+            LINE_LIMIT,
             &mut room.bytes,
         )
     });
@@ -356,6 +367,7 @@ fn views() {
             c.vertex[1],
             c.start,
             1e-5,
+            LINE_LIMIT,
             &mut room.bytes,
         )
     });
@@ -363,7 +375,7 @@ fn views() {
         (&c.outline, &c.record)
     });
     row!(&name(Call::ViewMark), cases, |library, c, room| {
-        library.view_mark(&c.outline, 1, &c.record, &mut room.bytes)
+        library.view_mark(&c.outline, 1, &c.record, LINE_LIMIT, &mut room.bytes)
     });
     row!(&name(Call::ViewCount), cases, |library, c, room| {
         library.view_count(&c.outline, &c.record, &mut room.wholes)

@@ -1,7 +1,7 @@
 //! Compares the static library and the program `sheet` with the oracle: `differ [CALLS [SHEETS [STEPS [SEED]]]]`,
 //! STEPS of rows of splits.
 //!
-//! Exit status 1 where anything differs, or where some answer, refusal or verdict was not reached.
+//! Exit status 1 where anything differs, or where some answer, refusal, verdict or kind of line limit was not reached.
 
 use cases::compare::compare_calls;
 use cases::report::Report;
