@@ -1,4 +1,4 @@
--- Laws of tests over an outline and of the checks, and the theorems: Demand3, Same, Shape, Table, Cut, CutNumber, OpenOutline, Made, Roots, RootCases, Exact.
+-- Laws of tests over an outline and of the checks, and the theorems: Demand3, Same, Shape, Table, Cut, CutNumber, OpenOutline, Made, Roots, RootCases, Exact, LimitAlone.
 pub mod All
 pub mod Checks
 pub mod Demand3
@@ -12,3 +12,4 @@ pub mod Made
 pub mod Roots
 pub mod RootCases
 pub mod Exact
+pub mod LimitAlone

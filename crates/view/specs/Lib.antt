@@ -7,6 +7,7 @@ pub mod Create
 pub mod Check
 pub mod Answers
 pub mod Exact
+pub mod LimitAlone
 pub mod Rows
 pub mod CutNumber
 pub mod Demand3
