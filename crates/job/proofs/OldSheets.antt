@@ -20,7 +20,6 @@ use Rattle.view.specs.declared.view_data.PlineViewData.{PlineViewData}
 use Rattle.job.specs.Header.{headerOf, closed, headerUnder, headerOk}
 use Rattle.job.specs.Outline.{numbersIn}
 use Rattle.job.specs.Sheet.{vertices, outlineOf, recordsOf, recordsOk, verticesOk, sheetOf}
-use Rattle.job.specs.Rows.{numbered}
 use Rattle.job.specs.Lines.{refusedLine, outlineLine}
 use Rattle.job.specs.Views.{verdictText, viewText}
 use Rattle.job.specs.Parts.{boxLine, answerText, wholeText, sheetText}
