@@ -257,10 +257,10 @@ static uint8_t validate_at(double line_limit, size_t outline_len, const bf_recor
 /* Each call at a limit by which it takes an arc for a line, and where that limit is refused. */
 static void call_limits(void)
 {
-    const double v[3] = {0, 20, 0}, wide[6] = {0, 0, 1.5, 4, 0, 0};
-    const double unit[6] = {0, 0, 0, 1, 0, 0}, small[6] = {0, 0, 1, 1e-6, 0, 0};
+    static const double v[3] = {0, 20, 0}, wide[6] = {0, 0, 1.5, 4, 0, 0};
+    static const double unit[6] = {0, 0, 0, 1, 0, 0}, small[6] = {0, 0, 1, 1e-6, 0, 0};
     const double over = nextafter(1e-3, 1), under = nextafter(1e-8, 0);
-    const bf_record chord = {0, 1, {20, 0, 0}, 0, {40, 20}, 0, 0};
+    static const bf_record chord = {0, 1, {20, 0, 0}, 0, {40, 20}, 0, 0};
     void *out = bytes + shift;
     unsigned char *byte = bytes + shift;
     say("circle of a traced arc", ROUGH, 3, bf_seg_arc_radius_and_center(TRACED, 6, 1e-8, numbers, 3));

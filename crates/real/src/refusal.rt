@@ -3,7 +3,7 @@
 // A number is NaN, infinite or out of range.
 pub const BAD_NUMBER: u8 = 1;
 
-// A tolerance is out of range or NaN.
+// A tolerance or a line limit is out of range or NaN.
 pub const BAD_TOLERANCE: u8 = 2;
 
 // The outline is not whole vertices, or too many, or too few for a view; a vertex is not three numbers.
