@@ -3,7 +3,8 @@
 
 usage: tools/snake_names.py [TOP]     once, after port.py, before any edit by hand; prints the names that fall together
 
-Comments and strings stay, but for words in back-quotes. Functions of src/, exported C names, types and modules keep their spelling.
+Only names that specs/ and proofs/ declare are turned, since the library joins two names by a dash. Comments and strings stay,
+but for words in back-quotes. Functions of src/, exported C names, types and modules keep their spelling.
 """
 import os
 import re
@@ -13,6 +14,10 @@ import sys
 WORD = re.compile(r"[^\W\d](?:[\w']|-(?=[\w']))*")
 TEXT = re.compile(r'"(?:[^"\\\n]|\\.)*"')
 TICKS = re.compile(r"`[^`\n]*`")
+HEAD = re.compile(r"^\s*(?:(?:abbrev|unfoldable|pattern|pub|let)\s+)*((?:[^\s:(){}.,;=←◌]+ )+): ", re.M)
+FROM_STD = re.compile(r"^use (?:Rattle\.std\b|Prim\b|\w+\b(?<!Rattle))[^{\n]*\{([^}]*)\}", re.M)
+
+declared = set()
 
 # Definitions whose plain name is a function's or a lemma's, and lemmas whose plain name is a definition's.
 OWN = {
@@ -97,6 +102,8 @@ def snake(word):
 
 
 def needs(word):
+    if word not in declared:
+        return False
     return "-" in word or (word[0].islower() and re.search(r"[a-z0-9'][A-Z]", word) is not None)
 
 
@@ -140,7 +147,16 @@ def turn_line(line, mark, seen):
 def main(top):
     os.chdir(top)
     files = subprocess.run(["git", "ls-files", "crates"], capture_output=True, text=True, check=True).stdout.split()
-    every, seen = set(), {}
+    every, seen, library = set(), {}, set()
+    for path in files:
+        if path.endswith(".antt"):
+            with open(path, encoding="utf-8") as f:
+                text = f.read()
+            declared.update(w for m in HEAD.finditer(text) for w in m.group(1).split())
+            library.update(w.strip() for m in FROM_STD.finditer(text) for w in m.group(1).split(","))
+    for word in sorted(declared & library):
+        if "-" in word:
+            print(f"{word}: declared here, and brought in from the library elsewhere")
     for path in files:
         if not path.endswith((".antt", ".rt")):
             continue

@@ -3,11 +3,11 @@ use mathlib.Core.Path.{◌≡◌, sym, subst, ◌∙◌}
 use mathlib.Core.Bool.{Bool, true, false, cond, ◌&&◌}
 use mathlib.Core.List.{List}
 use Prim.Native.Nat.{ℕ, ◌+◌, ◌-◌, ◌<◌, ◌≤◌}
-use native.Mathlib.Nat.{mod_lt}
+use native.Mathlib.Nat.{mod-lt}
 use native.Mathlib.Omega.{arith}
 use lib.Dec.{ltb}
 use lib.Ieee.{Float}
-use borrow.Author.Tests.{ltb_true}
+use borrow.Author.Tests.{ltb-true}
 use Rattle.real.specs.Refusal.{bad_trim}
 use Rattle.real.specs.Reply.{Reply, given}
 use Rattle.real.proofs.Replies.{same_given, check_passed, and_both}
@@ -53,7 +53,7 @@ module _ (s : List Float) (d d' : PlineViewData) where
       let v = evened double s d _ e in
       let ends = check_passed {b = ltb i j && ltb j (vertices d)} bad_trim (given (trimmed_of double s d i j)) (e ∙ even_rest double s d _ v) in
       let both = and_both (ltb i j) _ ends.0 in
-      record { clear = v.clear; below = ltb_true _ _ both.0; within = ltb_true _ _ both.1; is = same_given (sym ends.1) }
+      record { clear = v.clear; below = ltb-true _ _ both.0; within = ltb-true _ _ both.1; is = same_given (sym ends.1) }
 
   pub turn_placed : given d' ≡ reverse_of double s d → Placed s d'
   unfolding turn_view
@@ -67,7 +67,7 @@ module _ (s : List Float) (d d' : PlineViewData) where
   trim_placed i j e =
       let t = trimmed i j e in
       let p = t.clear.placed in
-      subst (Placed s) t.is (record { few = p.few; two = p.two; start = mod_lt _ (omega arith); offset = ends t d.inverted_direction })
+      subst (Placed s) t.is (record { few = p.few; two = p.two; start = mod-lt _ (omega arith); offset = ends t d.inverted_direction })
     where
       ends : Trimmed i j → (b : Bool) → cond b (d.end_index_offset + 1 - i) j - cond b (d.end_index_offset + 1 - j) i - 1 ≤ count_of s
       ends t true = omega (arith, t.clear.placed.offset)

@@ -6,7 +6,7 @@ use Rattle.plane.specs.declared.pline_vertex.PlineVertex.{PlineVertex}
 use Rattle.view.specs.declared.view_data.PlineViewData.{PlineViewData}
 use Rattle.record.specs.Record.{record_reply}
 use Rattle.record.specs.declared.record.RecordAnswer.{RecordAnswer}
-use Rattle.record.specs.declared.record.RecordAnswer.TheVariants as record_case
+use Rattle.record.specs.declared.record.RecordAnswer.TheVariants as record-case
 use Rattle.lent.specs.Lent.{Left}
 use Rattle.lent.specs.Segment.{segment_reply}
 use Rattle.lent.specs.declared.segment.SegmentAnswer.{SegmentAnswer}
@@ -23,11 +23,11 @@ pub no_segment : {B C : Type 0} {x : Reply (PlineVertex × PlineVertex)} {answer
 no_segment call e f = stops _ (ap segment_reply (sym e) ∙ f)
 
 pub of_record_law : {B C : Type 0} {x : Reply PlineViewData} {answer : RecordAnswer} {d : PlineViewData} {y : Reply B} (call : PlineViewData → Reply B) {store : B → Reply C} {before after : C} {n : ℕ}
-    → answer ≡ record_case.Given d → record_reply answer ≡ x → y ≡ call d → Left y store before n after → Left (and_then x call) store before n after
+    → answer ≡ record-case.Given d → record_reply answer ≡ x → y ≡ call d → Left y store before n after → Left (and_then x call) store before n after
 of_record_law call e f g l = past _ (ap record_reply (sym e) ∙ f) g l
 
 pub no_record : {B C : Type 0} {x : Reply PlineViewData} {answer : RecordAnswer} {n : ℕ} (call : PlineViewData → Reply B) {store : B → Reply C} {before : C}
-    → answer ≡ record_case.Refused n → record_reply answer ≡ x → Left (and_then x call) store before n before
+    → answer ≡ record-case.Refused n → record_reply answer ≡ x → Left (and_then x call) store before n before
 no_record call e f = stops _ (ap record_reply (sym e) ∙ f)
 
 -- what a call on a segment or a record returns: `search reads` finds the reading, the call and the writing

@@ -7,7 +7,7 @@ use lib.ListN.{length, take, drop}
 use lib.Seq.{take_at}
 use lib.Dec.{T, leb}
 use lib.Ieee.{Float, binary64, fits}
-use lib.Ieee.Bits.{of_bits_fits}
+use lib.Ieee.Bits.{of_bits-fits}
 use Rattle.real.specs.Refusal.{lacks_room}
 use Rattle.real.specs.Reply.{Reply, refused, given, and_then}
 use Rattle.real.proofs.Replies.{same_given, check_passed, went_on}
@@ -62,10 +62,10 @@ module _ (s : List Float) where
             record {
               start = p.start;
               offset = p.offset;
-              first = record { x = of_bits_fits binary64 _; y = of_bits_fits binary64 _; bulge = of_bits_fits binary64 _ };
-              end_bulge = of_bits_fits binary64 _;
-              end_x = of_bits_fits binary64 _;
-              end_y = of_bits_fits binary64 _;
+              first = record { x = of_bits-fits binary64 _; y = of_bits-fits binary64 _; bulge = of_bits-fits binary64 _ };
+              end_bulge = of_bits-fits binary64 _;
+              end_x = of_bits-fits binary64 _;
+              end_y = of_bits-fits binary64 _;
               even = λ z. same_bits double _ _ (even z);
             };
         number = le32_lt b bytes cut_number_at;

@@ -86,13 +86,13 @@ fn most_vertices() {
 
 // tan(pi/8), to the nearest f64.
 fn is_tan_of_eighth(b: f64) -> bool {
-    fuzzy_eq_eps(b, 0.41421356237309503, 1e_8)
+    fuzzy_eq_eps(b, 0.41421356237309503, 1e-8)
 }
 
 fn split_of_h() {
     say(b"H split at (0.5,-0.5), both bulges fuzzily tan(pi/8): ");
     let p = Vector2 { x: 0.5, y: -0.5 };
-    let answer = seg_split_at_point(start_of_h(), end_of_h(), p, 1e_5, LINE_LIMIT);
+    let answer = seg_split_at_point(start_of_h(), end_of_h(), p, 1e-5, LINE_LIMIT);
     match answer {
         SplitAnswer::Given(split) => {
             let a = split.updated_start;
@@ -105,7 +105,7 @@ fn split_of_h() {
 
 fn say_distance(d: f64) {
     let p = Vector2 { x: 0.5, y: 0.0 };
-    let answer = seg_distance_is_greater_than(start_of_h(), end_of_h(), p, d, 1e_5, LINE_LIMIT);
+    let answer = seg_distance_is_greater_than(start_of_h(), end_of_h(), p, d, 1e-5, LINE_LIMIT);
     match answer {
         BoolAnswer::Given(yes) => say_whether(yes),
         BoolAnswer::Refused(n) => say_refusal(n),
@@ -114,7 +114,7 @@ fn say_distance(d: f64) {
 
 // An arc whose centre lies 10 km off: its box, and its point that is closest to (1,1).
 fn traced_arc(limit: f64) {
-    let start = PlineVertex::new(0.0, 0.0, 1e_7);
+    let start = PlineVertex::new(0.0, 0.0, 1e-7);
     let end = PlineVertex::new(4.0, 0.0, 0.0);
     say(b", box down to 0: ");
     let answer = seg_bounding_box(start, end, limit);
@@ -124,7 +124,7 @@ fn traced_arc(limit: f64) {
     }
     say(b"closest to (1,1) is (1,0): ");
     let p = Vector2 { x: 1.0, y: 1.0 };
-    let answer = seg_closest_point(start, end, p, 1e_5, limit);
+    let answer = seg_closest_point(start, end, p, 1e-5, limit);
     match answer {
         PointAnswer::Given(q) => say_whether(q.x == 1.0 && q.y == 0.0),
         PointAnswer::Refused(n) => say_refusal(n),
@@ -141,7 +141,7 @@ fn main() {
     say(b"over 0.25: ");
     say_distance(0.25);
     say(b"(0,0,1e-7) to (4,0), limit 1e-8");
-    traced_arc(1e_8);
+    traced_arc(1e-8);
     say(b"limit 1e-6");
-    traced_arc(1e_6);
+    traced_arc(1e-6);
 }

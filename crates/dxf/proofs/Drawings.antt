@@ -2,15 +2,15 @@
 use mathlib.Core.Path.{◌≡◌, refl, sym, ap, ap₂, ◌∙◌, subst}
 use mathlib.Core.List.{List, [], ◌∷◌, ◌++◌}
 use mathlib.Core.Bool.{Bool, true, false, cond, ◌&&◌, true≢false}
-use mathlib.Core.Option.{Option, none, some, none_ne_some, some_injective}
+use mathlib.Core.Option.{Option, none, some, none-ne-some, some-injective}
 use Prim.Native.Nat.{ℕ, ◌+◌, ◌-◌, ◌*◌, ◌/◌, ◌%◌, ◌≤◌}
 use native.Mathlib.Omega.{arith}
-use lib.ListN.{length, take, drop, set, length_set, length_append}
+use lib.ListN.{length, take, drop, set, length-set, length-append}
 use lib.Seq.{take_at}
 use lib.Dec.{T, leb, eqb}
 use lib.Ieee.{Float, binary64, fits}
-use lib.Ieee.Bits.{of_bits_fits}
-use borrow.Author.Tests.{leb_true, le_leb, eqb_true, eq_eqb}
+use lib.Ieee.Bits.{of_bits-fits}
+use borrow.Author.Tests.{leb-true, le-leb, eqb-true, eq-eqb}
 use Rattle.real.specs.Refusal.{bad_text, bad_number, bad_outline, lacks_room}
 use Rattle.real.specs.Reply.{Reply, refused, given, check, and_then}
 use Rattle.real.proofs.Replies.{same_given, never_given, check_given, check_failed, and_both, went_on}
@@ -36,10 +36,10 @@ record Kept (s : Seen) : Type 0 where
 
 kept_start : Kept start
 unfolding Every
-kept_start = record { threes = refl; held = tt; x = λ x e. absurd (none_ne_some x e) }
+kept_start = record { threes = refl; held = tt; x = λ x e. absurd (none-ne-some x e) }
 
 zero_held : Held double.zero
-zero_held = of_bits_fits binary64 0
+zero_held = of_bits-fits binary64 0
 
 -- ---- the steps
 
@@ -64,16 +64,16 @@ module _ (s r : Seen) (k : Kept s) where
     unfolding x_step
     x_kept e =
         let w = went_on (number_of v) _ e in
-        is _ w.2 (record { threes = k.threes; held = k.held; x = λ y g. subst Held (some_injective _ _ g) (number_held v w.0 w.1) })
+        is _ w.2 (record { threes = k.threes; held = k.held; x = λ y g. subst Held (some-injective _ _ g) (number_held v w.0 w.1) })
 
     y_kept : (x : Float) → Held x → y_step s x v ≡ given r → Kept r
     unfolding y_step Every
     y_kept x h e =
         let w = went_on (number_of v) _ e in
         is _ w.2 record {
-          threes = ap (λ (n : ℕ). n % 3) (length_append s.numbers (x ∷ w.0 ∷ double.zero ∷ [])) ∙ more (length s.numbers) k.threes;
+          threes = ap (λ (n : ℕ). n % 3) (length-append s.numbers (x ∷ w.0 ∷ double.zero ∷ [])) ∙ more (length s.numbers) k.threes;
           held = every_append Held s.numbers _ k.held (h, (number_held v w.0 w.1, (zero_held, tt)));
-          x = λ y g. absurd (none_ne_some y g);
+          x = λ y g. absurd (none-ne-some y g);
         }
       where
         more : (n : ℕ) → n % 3 ≡ 0 → (n + 3) % 3 ≡ 0
@@ -84,7 +84,7 @@ module _ (s r : Seen) (k : Kept s) where
     bulge_kept e =
         let w = went_on (number_of v) _ (check_given (leb 1 (length s.numbers)) bad_text _ e).1 in
         is _ w.2 record {
-          threes = ap (λ (n : ℕ). n % 3) (length_set s.numbers (length s.numbers - 1) w.0) ∙ k.threes;
+          threes = ap (λ (n : ℕ). n % 3) (length-set s.numbers (length s.numbers - 1) w.0) ∙ k.threes;
           held = every_set Held s.numbers (length s.numbers - 1) w.0 k.held (number_held v w.0 w.1);
           x = k.x;
         }
@@ -130,7 +130,7 @@ drawn_sound b o e =
     let k = entity_kept (items_of (lines_of b)) s w.1 in
     let few = check_given (leb (count_of s.numbers) most_vertices) bad_outline _ w.2 in
     let range = check_given (numbers_ok double s.numbers) bad_number _ few.1 in
-    subst (λ (d : Drawn). SoundOutline d.numbers) (same_given range.1) (record { whole = simp (eq_eqb (length s.numbers % 3) 0 k.threes, few.0); numbers = range.0; held = k.held })
+    subst (λ (d : Drawn). SoundOutline d.numbers) (same_given range.1) (record { whole = simp (eq-eqb (length s.numbers % 3) 0 k.threes, few.0); numbers = range.0; held = k.held })
 
 -- whole vertices, and few enough
 pub drawn_threes : (b : List ℕ) (o : Drawn) → outline_of b ≡ given o → (length o.numbers ≡ 3 * count_of o.numbers) × (count_of o.numbers ≤ most_vertices)
@@ -138,7 +138,7 @@ unfolding whole_outline
 drawn_threes b o e =
     let n = length o.numbers in
     let w = and_both (eqb (n % 3) 0) (leb (n / 3) most_vertices) (drawn_sound b o e).whole in
-    (omega (arith, eqb_true (n % 3) 0 w.0), leb_true (n / 3) most_vertices w.1)
+    (omega (arith, eqb-true (n % 3) 0 w.0), leb-true (n / 3) most_vertices w.1)
 
 -- ---- in a lent buffer
 
@@ -155,14 +155,14 @@ handed_over_law b l d e =
     let buffer : outline_buffer b l ≡ o.numbers ++ drop (length o.numbers) l = ap (λ (x : Reply Drawn). handed_over x l) w.1 ∙ simp room.0 in
     let begins : take (3 * d.vertices) (outline_buffer b l) ≡ o.numbers = ap (take (3 * d.vertices)) buffer ∙ take_at o.numbers (drop (length o.numbers) l) (3 * d.vertices) n in (
       w.1 ∙ ap₂ (λ (x : List Float) (c : Bool). given (record { numbers = x; closed = c })) (sym begins) (ap (λ (x : DxfOutline). x.closed) is),
-      omega (arith, ap length buffer, length_append o.numbers (drop (length o.numbers) l)),
+      omega (arith, ap length buffer, length-append o.numbers (drop (length o.numbers) l)),
     )
 
 -- one for the largest outline has room for every other
 fits_all : (x : Reply Drawn) (m k : ℕ) → ((o : Drawn) → x ≡ given o → length o.numbers ≤ m) → and_then x (room_for m) ≡ refused k → x ≡ refused k
 unfolding and_then room_for
 fits_all (refused n) m k h e = let q : n ≡ k = cc in ap refused q
-fits_all (given o) m k h e = let f = check_failed {b = leb (length o.numbers) m} lacks_room _ (sym e) in absurd (true≢false (sym (le_leb (length o.numbers) m (h o refl)) ∙ f.0))
+fits_all (given o) m k h e = let f = check_failed {b = leb (length o.numbers) m} lacks_room _ (sym e) in absurd (true≢false (sym (le-leb (length o.numbers) m (h o refl)) ∙ f.0))
 
 pub refused_itself : (b : List ℕ) (m k : ℕ) → 3 * most_vertices ≤ m → outline_to b m ≡ refused k → outline_of b ≡ refused k
 unfolding outline_to

@@ -1,13 +1,13 @@
 -- Parts of a text, and where its lines are cut.
 use mathlib.Core.Path.{◌≡◌, refl, sym, ap, ◌∙◌, subst}
-use mathlib.Core.List.{List, [], ◌∷◌, ◌++◌, map, append_nil}
+use mathlib.Core.List.{List, [], ◌∷◌, ◌++◌, map, append-nil}
 use mathlib.Core.Bool.{Bool, true, false, cond, not, ◌&&◌}
 use Prim.Native.Nat.{ℕ, suc, ◌+◌, ◌-◌, ◌≤◌, ◌<◌}
 use native.Mathlib.Omega.{arith}
-use lib.ListN.{length, take, drop, get_or, length_drop, take_append_drop, drop_of_length_le}
-use lib.Seq.{take_suc, get_or_drop, drop_drop, length_take_le}
+use lib.ListN.{length, take, drop, get_or, length-drop, take-append-drop, drop_of_length-le}
+use lib.Seq.{take-suc, get_or-drop, drop-drop, length-take-le}
 use lib.Dec.{eqb}
-use borrow.Author.Tests.{eq_eqb, ne_eqb, not_true}
+use borrow.Author.Tests.{eq-eqb, ne_eqb, not-true}
 use Rattle.dxf.specs.Line.{onto, starts_lf, cut, skip_spaces, lines_of, part, no_lf, trim, Ends}
 use Rattle.real.proofs.Replies.{and_both}
 use Rattle.numeral.proofs.Text.{here}
@@ -24,7 +24,7 @@ part_none b i = ap (λ (n : ℕ). take n (drop i b)) (zero_of i)
 pub part_rest : (b : List ℕ) (i e : ℕ) → i ≤ e → drop i b ≡ part b i e ++ drop e b
 part_rest b i e h =
     let s : i + (e - i) ≡ e = omega arith in
-    sym (take_append_drop (e - i) (drop i b)) ∙ ap (λ (l : List ℕ). part b i e ++ l) (drop_drop (e - i) i b ∙ ap (λ (n : ℕ). drop n b) s)
+    sym (take-append-drop (e - i) (drop i b)) ∙ ap (λ (l : List ℕ). part b i e ++ l) (drop-drop (e - i) i b ∙ ap (λ (n : ℕ). drop n b) s)
 
 -- one byte more at its end
 pub part_more : (b : List ℕ) (i e : ℕ) → i ≤ e → e < length b → part b i (e + 1) ≡ part b i e ++ (get_or b e 0 ∷ [])
@@ -32,8 +32,8 @@ part_more b i e h l =
     let k : e + 1 - i ≡ suc (e - i) = omega arith in
     let s : i + (e - i) ≡ e = omega arith in
     ap (λ (n : ℕ). take n (drop i b)) k
-    ∙ take_suc (drop i b) (e - i) 0 (simp length_drop (omega arith))
-    ∙ ap (λ (x : ℕ). part b i e ++ (x ∷ [])) (get_or_drop i b (e - i) 0 ∙ ap (λ (n : ℕ). get_or b n 0) s)
+    ∙ take-suc (drop i b) (e - i) 0 (simp length-drop (omega arith))
+    ∙ ap (λ (x : ℕ). part b i e ++ (x ∷ [])) (get_or-drop i b (e - i) 0 ∙ ap (λ (n : ℕ). get_or b n 0) s)
 
 -- its first byte
 pub part_first : (b : List ℕ) (i e : ℕ) → i < e → e ≤ length b → part b i e ≡ get_or b i 0 ∷ part b (i + 1) e
@@ -42,7 +42,7 @@ part_first b i e h l =
     ap (λ (n : ℕ). take n (drop i b)) k ∙ ap (λ (t : List ℕ). take (suc (e - (i + 1))) t) (here b i (omega arith))
 
 pub part_length : (b : List ℕ) (i e : ℕ) → i ≤ e → e ≤ length b → length (part b i e) ≡ e - i
-part_length b i e h l = length_take_le (e - i) (drop i b) (simp length_drop (omega arith))
+part_length b i e h l = length-take-le (e - i) (drop i b) (simp length-drop (omega arith))
 
 -- ---- where a line is cut
 
@@ -53,7 +53,7 @@ no_lf_more (b ∷ x) c h d = subst (λ (z : Bool). (z && no_lf (x ++ (c ∷ []))
 
 no_lf_first : (b : ℕ) (x : List ℕ) → no_lf (b ∷ x) ≡ true → (eqb b 10 ≡ false) × (no_lf x ≡ true)
 unfolding no_lf
-no_lf_first b x h = let e = and_both (not (eqb b 10)) (no_lf x) h in (not_true (eqb b 10) e.0, e.1)
+no_lf_first b x h = let e = and_both (not (eqb b 10)) (no_lf x) h in (not-true (eqb b 10) e.0, e.1)
 
 -- a byte that neither ends a line nor stands before one that does
 cut_on : (b c : ℕ) (x : List ℕ) → eqb b 10 ≡ false → eqb c 10 ≡ false → cut (b ∷ c ∷ x) ≡ onto b (cut (c ∷ x))
@@ -93,7 +93,7 @@ cut_end b (c ∷ x) h =
 
 trim_cr : (x : List ℕ) (c : ℕ) → c ≡ 13 → trim (x ++ (c ∷ [])) ≡ x
 unfolding trim
-trim_cr [] c e = simp (eq_eqb c 13 e)
+trim_cr [] c e = simp (eq-eqb c 13 e)
 trim_cr (b ∷ []) c e = ap (λ (l : List ℕ). b ∷ l) (trim_cr [] c e)
 trim_cr (b ∷ d ∷ x) c e = ap (λ (l : List ℕ). b ∷ l) (trim_cr (d ∷ x) c e)
 
@@ -128,7 +128,7 @@ module _ (b : List ℕ) (i e : ℕ) where
   space_here h l c = ap skip_spaces (part_first b i e h l) ∙ skip (get_or b i 0) (part b (i + 1) e) c
     where
       skip : (c : ℕ) (t : List ℕ) → c ≡ 32 → skip_spaces (c ∷ t) ≡ skip_spaces t
-      skip c t h = unfold skip_spaces in simp (eq_eqb c 32 h)
+      skip c t h = unfold skip_spaces in simp (eq-eqb c 32 h)
 
   pub text_here : i < e → e ≤ length b → (get_or b i 0 ≡ 32 → ⊥) → skip_spaces (part b i e) ≡ part b i e
   text_here h l c = ap skip_spaces (part_first b i e h l) ∙ stay (get_or b i 0) (part b (i + 1) e) c ∙ sym (part_first b i e h l)
@@ -154,10 +154,10 @@ module _ (b : List ℕ) (i e s t : ℕ) (at : Ends b i e) (texts : part b s t �
   pub line_last : i < length b → length b ≤ e → part b i t ≡ part b i e → lines_of (drop i b) ≡ part b s t ∷ lines_of (drop e b)
   unfolding lines_of cut
   line_last l g h =
-      let m : drop e b ≡ [] = drop_of_length_le b {i = e} g in
+      let m : drop e b ≡ [] = drop_of_length-le b {i = e} g in
       let r = part_first b i e (omega (arith, at.to)) at.to in
       ap (map skip_spaces)
-      (ap cut (part_rest b i e at.from ∙ ap (λ (x : List ℕ). part b i e ++ x) m ∙ append_nil (part b i e) ∙ r) ∙ cut_end (get_or b i 0) (part b (i + 1) e) (subst (λ (x : List ℕ). no_lf x ≡ true) r at.none))
+      (ap cut (part_rest b i e at.from ∙ ap (λ (x : List ℕ). part b i e ++ x) m ∙ append-nil (part b i e) ∙ r) ∙ cut_end (get_or b i 0) (part b (i + 1) e) (subst (λ (x : List ℕ). no_lf x ≡ true) r at.none))
       ∙ ap (λ (x : List ℕ). skip_spaces x ∷ []) (sym r ∙ sym h)
       ∙ ap (λ (x : List ℕ). x ∷ []) (sym texts)
       ∙ ap (λ (x : List ℕ). part b s t ∷ map skip_spaces (cut x)) (sym m)

@@ -5,7 +5,7 @@ use mathlib.Core.Bool.{Bool, true, false, ◌&&◌}
 use Prim.Native.Nat.{ℕ, suc, ◌+◌, ◌<◌}
 use lib.ListN.{length, drop, get_or}
 use lib.Dec.{eqb}
-use borrow.Author.Tests.{eq_eqb, ne_eqb}
+use borrow.Author.Tests.{eq-eqb, ne_eqb}
 use Rattle.numeral.proofs.Text.{here, past}
 use Rattle.dxf.specs.Entity.{same}
 
@@ -25,7 +25,7 @@ module _ (a b : List ℕ) (i : ℕ) (ha : i < length a) (hb : i < length b) wher
   both_here = ap (λ (l : List ℕ). same l (drop i b)) (here a i ha) ∙ ap (same (get_or a i 0 ∷ drop (i + 1) a)) (here b i hb) ∙ unfold same in refl
 
   pub same_here : get_or a i 0 ≡ get_or b i 0 → same (drop i a) (drop i b) ≡ same (drop (i + 1) a) (drop (i + 1) b)
-  same_here e = both_here ∙ simp (eq_eqb (get_or a i 0) (get_or b i 0) e)
+  same_here e = both_here ∙ simp (eq-eqb (get_or a i 0) (get_or b i 0) e)
 
   pub not_here : (get_or a i 0 ≡ get_or b i 0 → ⊥) → same (drop i a) (drop i b) ≡ false
   not_here e = both_here ∙ simp (ne_eqb (get_or a i 0) (get_or b i 0) e)

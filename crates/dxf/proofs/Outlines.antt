@@ -6,7 +6,7 @@ use Prim.Native.Nat.{ℕ, ◌*◌, ◌/◌, ◌≤◌, ◌<◌}
 use native.Mathlib.Omega.{arith}
 use lib.ListN.{length, take, drop}
 use lib.Ieee.{Float}
-use borrow.Author.Tests.{le_leb, lt_leb}
+use borrow.Author.Tests.{le-leb, lt-leb}
 use Rattle.real.specs.Refusal.{bad_number, bad_outline, lacks_room}
 use Rattle.real.specs.Reply.{Reply, refused, given, check, and_then}
 use Rattle.plane.specs.Grade.{double}
@@ -20,14 +20,14 @@ use Rattle.dxf.specs.declared.state.State.{State}
 use Rattle.dxf.specs.declared.state.StepAnswer.{StepAnswer}
 use Rattle.dxf.specs.declared.state.StepAnswer.TheVariants as step_case
 use Rattle.dxf.specs.declared.outline.DxfAnswer.{DxfAnswer}
-use Rattle.dxf.specs.declared.outline.DxfAnswer.TheVariants as dxf_case
+use Rattle.dxf.specs.declared.outline.DxfAnswer.TheVariants as dxf-case
 
 answers_as : {d e : Reply Drawn} (r : DxfAnswer) (l after : List Float) → d ≡ e → Answers e r l after → Answers d r l after
 answers_as r l after e h = subst (λ (x : Reply Drawn). Answers x r l after) (sym e) h
 
-answers_refused : {d : Reply Drawn} {k : ℕ} (l : List Float) → d ≡ refused k → Answers d (dxf_case.Refused k) l l
+answers_refused : {d : Reply Drawn} {k : ℕ} (l : List Float) → d ≡ refused k → Answers d (dxf-case.Refused k) l l
 unfolding and_then handed_over
-answers_refused {k = k} l e = answers_as (dxf_case.Refused k) l l e (refl, refl)
+answers_refused {k = k} l e = answers_as (dxf-case.Refused k) l l e (refl, refl)
 
 -- ---- past the vertex limit
 
@@ -37,25 +37,25 @@ module _ (n : List Float) (c : Bool) (few : length n ≤ 3 * most_vertices) (l :
 
   within : judged n c ≡ check (numbers_ok double n) bad_number (given drawn)
   unfolding judged
-  within = simp (le_leb (length n / 3) most_vertices (omega arith))
+  within = simp (le-leb (length n / 3) most_vertices (omega arith))
 
-  pub out_of_range : numbers_ok double n ≡ false → Answers (judged n c) (dxf_case.Refused bad_number) l l
+  pub out_of_range : numbers_ok double n ≡ false → Answers (judged n c) (dxf-case.Refused bad_number) l l
   out_of_range e = answers_refused l (within ∙ simp e)
 
-  pub no_room : numbers_ok double n ≡ true → length l < length n → Answers (judged n c) (dxf_case.Refused lacks_room) l l
+  pub no_room : numbers_ok double n ≡ true → length l < length n → Answers (judged n c) (dxf-case.Refused lacks_room) l l
   unfolding and_then room_for handed_over
-  no_room e h = answers_as {e = given drawn} (dxf_case.Refused lacks_room) l l (within ∙ simp e) (simp (lt_leb (length n) (length l) h), simp (lt_leb (length n) (length l) h))
+  no_room e h = answers_as {e = given drawn} (dxf-case.Refused lacks_room) l l (within ∙ simp e) (simp (lt-leb (length n) (length l) h), simp (lt-leb (length n) (length l) h))
 
-  pub handed : (after : List Float) → numbers_ok double n ≡ true → length n ≤ length l → after ≡ n ++ drop (length n) l → Answers (judged n c) (dxf_case.Given (record { vertices = length n / 3; closed = c })) l after
+  pub handed : (after : List Float) → numbers_ok double n ≡ true → length n ≤ length l → after ≡ n ++ drop (length n) l → Answers (judged n c) (dxf-case.Given (record { vertices = length n / 3; closed = c })) l after
   unfolding and_then room_for handed_over
-  handed after e h w = answers_as {e = given drawn} (dxf_case.Given (record { vertices = length n / 3; closed = c })) l after (within ∙ simp e) (simp (le_leb (length n) (length l) h), w ∙ simp (le_leb (length n) (length l) h))
+  handed after e h w = answers_as {e = given drawn} (dxf-case.Given (record { vertices = length n / 3; closed = c })) l after (within ∙ simp e) (simp (le-leb (length n) (length l) h), w ∙ simp (le-leb (length n) (length l) h))
 
 -- ---- what has been read
 
 module _ (s : State) (a : List Float) (m : Seen) (h : Holds s a m) (l : List Float) where
-  pub too_many : most_vertices < s.vertices → Answers (judged m.numbers m.closed) (dxf_case.Refused bad_outline) l l
+  pub too_many : most_vertices < s.vertices → Answers (judged m.numbers m.closed) (dxf-case.Refused bad_outline) l l
   unfolding judged
-  too_many g = let t : most_vertices < length m.numbers / 3 = omega (arith, h.size) in answers_refused l (simp (lt_leb (length m.numbers / 3) most_vertices t))
+  too_many g = let t : most_vertices < length m.numbers / 3 = omega (arith, h.size) in answers_refused l (simp (lt-leb (length m.numbers / 3) most_vertices t))
 
   pub as_held : (r : DxfAnswer) (after : List Float) → s.vertices ≤ most_vertices → Answers (judged (take (3 * s.vertices) a) s.closed) r l after → Answers (judged m.numbers m.closed) r l after
   as_held r after g w = answers_as r l after (sym (ap₂ judged (h.held g) h.closed)) w
@@ -63,7 +63,7 @@ module _ (s : State) (a : List Float) (m : Seen) (h : Holds s a m) (l : List Flo
 -- ---- the whole call
 
 module _ (b : List ℕ) (q : StepAnswer) (a : List Float) (l : List Float) (d : Read (entity_of (items_at b 0)) q a) where
-  pub dxf_bad : (k : ℕ) → q ≡ step_case.Refused k → Answers (outline_of b) (dxf_case.Refused k) l l
+  pub dxf_bad : (k : ℕ) → q ≡ step_case.Refused k → Answers (outline_of b) (dxf-case.Refused k) l l
   unfolding Read outline_of items_at and_then
   dxf_bad k e = answers_refused l (ap (λ (x : Reply Seen). and_then x (λ s. judged s.numbers s.closed)) (subst (λ (x : StepAnswer). Read (entity_of (items_at b 0)) x a) e d))
 

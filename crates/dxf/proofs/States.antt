@@ -4,15 +4,15 @@ use mathlib.Core.List.{List, [], ◌∷◌, ◌++◌, append_assoc}
 use mathlib.Core.Bool.{Bool, true, false, cond, not, ◌&&◌}
 use mathlib.Core.Option.{Option, none, some}
 use Prim.Native.Nat.{ℕ, suc, ◌+◌, ◌-◌, ◌*◌, ◌/◌, ◌%◌, ◌≤◌, ◌<◌}
-use native.Mathlib.Numerals.{add_one}
+use native.Mathlib.Numerals.{add-one}
 use native.Mathlib.Decide.{ℕ_discrete}
 use native.Mathlib.Nat.{lt_irrefl}
 use native.Mathlib.Omega.{arith}
-use lib.ListN.{length, take, set, length_set, length_append}
-use lib.Seq.{take_suc_set}
+use lib.ListN.{length, take, set, length-set, length-append}
+use lib.Seq.{take-suc-set}
 use lib.Dec.{eqb}
 use lib.Ieee.{Float}
-use borrow.Author.Tests.{le_leb, lt_leb, eq_eqb, ne_eqb}
+use borrow.Author.Tests.{le-leb, lt-leb, eq-eqb, ne_eqb}
 use Rattle.real.specs.Refusal.{bad_text}
 use Rattle.real.specs.Reply.{Reply, refused, given, and_then}
 use Rattle.plane.specs.Grade.{double}
@@ -35,11 +35,11 @@ put_three l i x y z h =
     let b : i + 2 ≡ suc (i + 1) = omega arith in
     let l₁ = set l i x in
     let l₂ = set l₁ (i + 1) y in
-    let n₁ : length l₁ ≡ length l = length_set l i x in
-    let n₂ : length l₂ ≡ length l = length_set l₁ (i + 1) y ∙ n₁ in
+    let n₁ : length l₁ ≡ length l = length-set l i x in
+    let n₂ : length l₂ ≡ length l = length-set l₁ (i + 1) y ∙ n₁ in
     ap (λ (n : ℕ). take n (set l₂ (i + 2) z)) a
-    ∙ take_suc_set l₂ (i + 2) z (omega arith)
-    ∙ ap (λ (r : List _). r ++ (z ∷ [])) (ap (λ (n : ℕ). take n l₂) b ∙ take_suc_set l₁ (i + 1) y (omega arith) ∙ ap (λ (r : List _). r ++ (y ∷ [])) (ap (λ (n : ℕ). take n l₁) (add_one i) ∙ take_suc_set l i x (omega arith)))
+    ∙ take-suc-set l₂ (i + 2) z (omega arith)
+    ∙ ap (λ (r : List _). r ++ (z ∷ [])) (ap (λ (n : ℕ). take n l₂) b ∙ take-suc-set l₁ (i + 1) y (omega arith) ∙ ap (λ (r : List _). r ++ (y ∷ [])) (ap (λ (n : ℕ). take n l₁) (add-one i) ∙ take-suc-set l i x (omega arith)))
     ∙ simp append_assoc
 
 -- ---- the steps
@@ -108,7 +108,7 @@ module _ (s : State) (a : List Float) (m : Seen) (h : Holds s a m) (v : List ℕ
       count = h.count;
       closed = h.closed;
       waits = refl;
-      size = length_append m.numbers (s.x ∷ y ∷ double.zero ∷ []) ∙ three (length m.numbers) s.vertices h.size;
+      size = length-append m.numbers (s.x ∷ y ∷ double.zero ∷ []) ∙ three (length m.numbers) s.vertices h.size;
       held = λ l. ap (λ (n : ℕ). take n b) (next s.vertices) ∙ p (omega arith) ∙ ap (λ (r : List Float). r ++ (s.x ∷ y ∷ double.zero ∷ [])) (h.held (omega arith));
     },
   )
@@ -121,11 +121,11 @@ module _ (s : State) (a : List Float) (m : Seen) (h : Holds s a m) (v : List ℕ
 
   pub bulge_none : (b : List Float) → s.vertices < 1 → Steps s (bulge_step m v) (step_case.Refused bad_text) b
   unfolding bulge_step
-  bulge_none b l = let z : length m.numbers < 1 = omega (arith, h.size) in steps_refused s b (simp (lt_leb 1 (length m.numbers) z))
+  bulge_none b l = let z : length m.numbers < 1 = omega (arith, h.size) in steps_refused s b (simp (lt-leb 1 (length m.numbers) z))
 
   pub bulge_bad : (k : ℕ) (b : List Float) → 1 ≤ s.vertices → refused k ≡ number_of v → Steps s (bulge_step m v) (step_case.Refused k) b
   unfolding bulge_step and_then
-  bulge_bad k b l e = let z : 1 ≤ length m.numbers = omega (arith, h.size) in steps_refused s b (simp (le_leb 1 (length m.numbers) z, sym e))
+  bulge_bad k b l e = let z : 1 ≤ length m.numbers = omega (arith, h.size) in steps_refused s b (simp (le-leb 1 (length m.numbers) z, sym e))
 
   pub bulge_good : (z : Float) (b : List Float) → 1 ≤ s.vertices → given z ≡ number_of v → (s.vertices ≤ most_vertices → take (3 * s.vertices) b ≡ set (take (3 * s.vertices) a) (3 * s.vertices - 1) z) → Steps s (bulge_step m v) (step_case.Given s) b
   unfolding Steps bulge_step and_then
@@ -134,12 +134,12 @@ module _ (s : State) (a : List Float) (m : Seen) (h : Holds s a m) (v : List ℕ
       let place : 3 * s.vertices - 1 ≡ length m.numbers - 1 = omega (arith, h.size) in (
         omega arith,
         record { count = m.count; closed = m.closed; waits = m.waits; numbers = set m.numbers (length m.numbers - 1) z },
-        simp (le_leb 1 (length m.numbers) some, sym e),
+        simp (le-leb 1 (length m.numbers) some, sym e),
         record {
           count = h.count;
           closed = h.closed;
           waits = h.waits;
-          size = length_set m.numbers (length m.numbers - 1) z ∙ h.size;
+          size = length-set m.numbers (length m.numbers - 1) z ∙ h.size;
           held = λ g. p g ∙ ap (λ (r : List Float). set r (3 * s.vertices - 1) z) (h.held g) ∙ ap (λ (i : ℕ). set m.numbers i z) place;
         },
       )
@@ -160,7 +160,7 @@ module _ {s : State} {a : List Float} {m : Seen} (h : Holds s a m) where
 module _ (m : Seen) (c : ℕ) (v : List ℕ) where
   pub step_y : (x : Float) → m.waits ≡ some x → c ≡ 20 → y_step m x v ≡ step_of m c v
   unfolding step_of step_from
-  step_y x w e = sym (ap (λ (o : Option Float). step_from o m c v) w ∙ simp (eq_eqb c 20 e))
+  step_y x w e = sym (ap (λ (o : Option Float). step_from o m c v) w ∙ simp (eq-eqb c 20 e))
 
   pub step_late : (x : Float) → m.waits ≡ some x → (c ≡ 20 → ⊥) → step_of m c v ≡ refused bad_text
   unfolding step_of step_from
@@ -173,23 +173,23 @@ module _ (m : Seen) (c : ℕ) (v : List ℕ) where
 
     pub step_90 : c ≡ 90 → count_step m v ≡ step_of m c v
     unfolding step_from
-    step_90 e = sym (simp (eq_eqb c 90 e)) ∙ freely
+    step_90 e = sym (simp (eq-eqb c 90 e)) ∙ freely
 
     pub step_70 : (c ≡ 90 → ⊥) → c ≡ 70 → closed_step m v ≡ step_of m c v
     unfolding step_from
-    step_70 a e = sym (simp (ne_eqb c 90 a, eq_eqb c 70 e)) ∙ freely
+    step_70 a e = sym (simp (ne_eqb c 90 a, eq-eqb c 70 e)) ∙ freely
 
     pub step_10 : (c ≡ 90 → ⊥) → (c ≡ 70 → ⊥) → c ≡ 10 → x_step m v ≡ step_of m c v
     unfolding step_from
-    step_10 a b e = sym (simp (ne_eqb c 90 a, ne_eqb c 70 b, eq_eqb c 10 e)) ∙ freely
+    step_10 a b e = sym (simp (ne_eqb c 90 a, ne_eqb c 70 b, eq-eqb c 10 e)) ∙ freely
 
     pub step_20 : (c ≡ 90 → ⊥) → (c ≡ 70 → ⊥) → (c ≡ 10 → ⊥) → c ≡ 20 → step_of m c v ≡ refused bad_text
     unfolding step_from
-    step_20 a b d e = sym freely ∙ simp (ne_eqb c 90 a, ne_eqb c 70 b, ne_eqb c 10 d, eq_eqb c 20 e)
+    step_20 a b d e = sym freely ∙ simp (ne_eqb c 90 a, ne_eqb c 70 b, ne_eqb c 10 d, eq-eqb c 20 e)
 
     pub step_42 : (c ≡ 90 → ⊥) → (c ≡ 70 → ⊥) → (c ≡ 10 → ⊥) → (c ≡ 20 → ⊥) → c ≡ 42 → bulge_step m v ≡ step_of m c v
     unfolding step_from
-    step_42 a b d f e = sym (simp (ne_eqb c 90 a, ne_eqb c 70 b, ne_eqb c 10 d, ne_eqb c 20 f, eq_eqb c 42 e)) ∙ freely
+    step_42 a b d f e = sym (simp (ne_eqb c 90 a, ne_eqb c 70 b, ne_eqb c 10 d, ne_eqb c 20 f, eq-eqb c 42 e)) ∙ freely
 
     pub step_other : (c ≡ 90 → ⊥) → (c ≡ 70 → ⊥) → (c ≡ 10 → ⊥) → (c ≡ 20 → ⊥) → (c ≡ 42 → ⊥) → given m ≡ step_of m c v
     unfolding step_from
@@ -203,7 +203,7 @@ count_same none k n l e g h = ne_eqb k n (λ (f : k ≡ n). lt_irrefl n (omega a
 count_same (some c) k n l e g h =
     let t : l / 3 ≡ n = omega arith in
     elim (ℕ_discrete c n) [
-      | yes p ↦ eq_eqb k n (e ∙ kept_under c (omega arith) ∙ p) ∙ sym (eq_eqb c (l / 3) (p ∙ sym t))
+      | yes p ↦ eq-eqb k n (e ∙ kept_under c (omega arith) ∙ p) ∙ sym (eq-eqb c (l / 3) (p ∙ sym t))
       | no p ↦ ne_eqb k n (λ (f : k ≡ n). p (kept_only c n h (sym e ∙ f))) ∙ sym (ne_eqb c (l / 3) (λ (f : c ≡ l / 3). p (f ∙ t)))
     ]
 

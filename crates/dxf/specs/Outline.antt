@@ -10,7 +10,7 @@ use Rattle.dxf.specs.Item.{items_of}
 use Rattle.dxf.specs.Entity.{Seen, entity_of}
 use Rattle.dxf.specs.declared.outline.DxfOutline.{DxfOutline}
 use Rattle.dxf.specs.declared.outline.DxfAnswer.{DxfAnswer}
-use Rattle.dxf.specs.declared.outline.DxfAnswer.TheVariants as dxf_case
+use Rattle.dxf.specs.declared.outline.DxfAnswer.TheVariants as dxf-case
 
 -- an outline: its numbers in threes, and whether it is closed
 pub record Drawn : Type 0 where
@@ -31,8 +31,8 @@ unfoldable pub room_for : ℕ → Drawn → Reply DxfOutline
 room_for m o = check (leb (length o.numbers) m) lacks_room (given (record { vertices = count_of o.numbers; closed = o.closed }))
 
 abbrev pub dxf_reply : DxfAnswer → Reply DxfOutline
-dxf_reply (dxf_case.Given d) = given d
-dxf_reply (dxf_case.Refused k) = refused k
+dxf_reply (dxf-case.Given d) = given d
+dxf_reply (dxf-case.Refused k) = refused k
 
 unfoldable pub outline_to : List ℕ → ℕ → Reply DxfOutline
 outline_to b m = and_then (outline_of b) (room_for m)

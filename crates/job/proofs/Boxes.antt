@@ -1,7 +1,7 @@
 -- A segment of a sound outline has a box: both its vertices are in range, so that no segment call refuses.
 use mathlib.Core.Path.{◌≡◌}
 use Prim.Native.Nat.{ℕ, ◌+◌, ◌<◌}
-use native.Mathlib.Nat.{mod_lt}
+use native.Mathlib.Nat.{mod-lt}
 use native.Mathlib.Omega.{arith}
 use mathlib.Core.Bool.{true}
 use mathlib.Core.List.{List}
@@ -16,4 +16,4 @@ pub segment_ok : (b : List ℕ) (n k : ℕ) → Sound b n → k < n → seg_ok d
 unfolding seg_ok
 segment_ok b n k s h =
     let ok = all_each (λ j. vertex_ok double (vertex_in_of b j)) n s.each in
-    simp (ok k h, ok (wrapped k 1 n) (mod_lt (k + 1) (omega arith)))
+    simp (ok k h, ok (wrapped k 1 n) (mod-lt (k + 1) (omega arith)))

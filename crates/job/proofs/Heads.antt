@@ -5,7 +5,7 @@ use mathlib.Core.List.{List}
 use Prim.Native.Nat.{ℕ, ◌+◌, ◌*◌}
 use lib.ListN.{length}
 use lib.Dec.{leb, ltb, eqb}
-use borrow.Author.Tests.{leb_true, eqb_true}
+use borrow.Author.Tests.{leb-true, eqb-true}
 use Rattle.real.proofs.Replies.{and_both}
 use Rattle.plane.specs.Range.{most_vertices}
 use Rattle.job.specs.declared.header.Header.{Header}
@@ -21,4 +21,4 @@ headed b h ok e =
     let offsets = and_both (leb h.views most_views) _ views.1 in
     let last = (and_both (eqb h.vertex_offset header_size) _ offsets.1).1 in
     let size = (and_both (eqb h.view_offset (header_size + vertex_size * h.vertices)) _ last).1 in
-    record { is = e; sound = ok; vertices = leb_true _ _ views.0; views = leb_true _ _ offsets.0; size = eqb_true _ _ size }
+    record { is = e; sound = ok; vertices = leb-true _ _ views.0; views = leb-true _ _ offsets.0; size = eqb-true _ _ size }

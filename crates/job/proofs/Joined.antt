@@ -1,6 +1,6 @@
 -- Texts joined: by the elements of a list, by number, and from the front.
 use mathlib.Core.Path.{◌≡◌, refl, sym, ap, ap₂, ◌∙◌}
-use mathlib.Core.List.{List, [], ◌∷◌, ◌++◌, append_assoc, append_nil}
+use mathlib.Core.List.{List, [], ◌∷◌, ◌++◌, append_assoc, append-nil}
 use Prim.Native.Nat.{ℕ, zero, suc, ◌+◌, ◌<◌}
 use native.Mathlib.Omega.{arith}
 use Rattle.lists.specs.Plain.{tab}
@@ -13,7 +13,7 @@ joined_ext f g (suc n) h = ap₂ (λ (a b : List ℕ). a ++ b) (joined_ext f g n
 
 pub joined_first : (f : ℕ → List ℕ) (n : ℕ) → joined f (suc n) ≡ f 0 ++ joined (λ k. f (suc k)) n
 unfolding joined
-joined_first f zero = sym (append_nil (f 0))
+joined_first f zero = sym (append-nil (f 0))
 joined_first f (suc n) = ap (λ (t : List ℕ). t ++ f (suc n)) (joined_first f n) ∙ append_assoc (f 0) (joined (λ k. f (suc k)) n) (f (suc n))
 
 pub numbered_ext : {A : Type 0} (f g : ℕ → A → List ℕ) → ((k : ℕ) (x : A) → f k x ≡ g k x) → (k : ℕ) (l : List A) → numbered f k l ≡ numbered g k l

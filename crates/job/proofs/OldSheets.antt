@@ -6,7 +6,7 @@ use mathlib.Core.Bool.{Bool, true, false, ◌&&◌}
 use mathlib.Core.List.{List, ◌++◌}
 use lib.ListN.{length}
 use lib.Ieee.{of_bits, le, lt, eq}
-use borrow.Author.Tests.{le_leb, lt_leb}
+use borrow.Author.Tests.{le-leb, lt-leb}
 use Rattle.real.specs.Refusal.{bad_number, bad_outline, bad_sheet, bad_record}
 use Rattle.real.specs.Reply.{given, check}
 use Rattle.real.specs.Tally.{plain}
@@ -32,7 +32,7 @@ module _ (m n : ℕ) (b : List ℕ) (p : vertices b ≤ m) (q : vertices b ≤ n
   whole_same =
       let size : length (outline_of b) ≡ 3 * vertices b = length_tab _ (3 * vertices b) in
       let few : length (outline_of b) / 3 ≡ vertices b = omega (arith, size) in
-      simp (few, le_leb (vertices b) m p, le_leb (vertices b) n q)
+      simp (few, le-leb (vertices b) m p, le-leb (vertices b) n q)
 
   view_same : (closed : Bool) (k : ℕ) (d : PlineViewData) → view_text_under m closed (outline_of b) k d ≡ view_text_under n closed (outline_of b) k d
   unfolding view_text_under validate_under
@@ -50,7 +50,7 @@ module _ (m n : ℕ) (b : List ℕ) (p : vertices b ≤ m) (q : vertices b ≤ n
 
   header_same : header_under m (header_value b) (length b) ≡ header_under n (header_value b) (length b)
   unfolding header_under
-  header_same = simp (le_leb (vertices b) m p, le_leb (vertices b) n q)
+  header_same = simp (le-leb (vertices b) m p, le-leb (vertices b) n q)
 
   same_under : sheet_text_under m b ≡ sheet_text_under n b
   unfolding sheet_text_under
@@ -65,7 +65,7 @@ and_false false = refl
 
 over : (m : ℕ) (b : List ℕ) → m < vertices b → sheet_text_under m b ≡ refused_line bad_sheet
 unfolding sheet_text_under header_under
-over m b h = simp (lt_leb (vertices b) m h, and_false)
+over m b h = simp (lt-leb (vertices b) m h, and_false)
 
 stands : (b : List ℕ) → sheet_text_under most_vertices b ≡ sheet_text b
 unfolding sheet_text_under whole_text_under view_text_under validate_under whole_under sheet_text sheet_of header_good whole_text view_text validate_by whole_outline limit_ok of_bits le lt eq

@@ -6,7 +6,7 @@ use Prim.Native.Nat.{ℕ, ◌+◌, ◌-◌, ◌≤◌, ◌<◌}
 use native.Mathlib.Omega.{arith}
 use lib.ListN.{length}
 use lib.Ieee.{Float}
-use borrow.Author.Tests.{lt_ltb, le_ltb}
+use borrow.Author.Tests.{lt-ltb, le-ltb}
 use Rattle.text.specs.Wrote.{Filled}
 use Rattle.text.proofs.Writing.{no_piece, filled}
 use Rattle.job.specs.declared.header.Header.{Header}
@@ -42,17 +42,17 @@ module _ (b : List ℕ) (s l : List Float) (k : ℕ) where
   module _ (ok : header_good b ≡ true) where
     pub past_part : views b + 2 ≤ k → ([] ≡ part_text b s k) × (l ≡ part_buffer b s k l)
     unfolding part_text part_buffer
-    past_part h = (simp (ok, le_ltb k (views b + 2) h), simp (ok, le_ltb k (views b + 2) h))
+    past_part h = (simp (ok, le-ltb k (views b + 2) h), simp (ok, le-ltb k (views b + 2) h))
 
     pub front_part_law : k < 2 → (front_part b k ≡ part_text b s k) × (l ≡ part_buffer b s k l)
     unfolding part_text part_buffer
     front_part_law z =
         let h : k < views b + 2 = omega arith in
-        (simp (ok, lt_ltb k (views b + 2) h, lt_ltb k 2 z), simp (ok, lt_ltb k (views b + 2) h, lt_ltb k 2 z))
+        (simp (ok, lt-ltb k (views b + 2) h, lt-ltb k 2 z), simp (ok, lt-ltb k (views b + 2) h, lt-ltb k 2 z))
 
     pub view_part_law : 2 ≤ k → k < views b + 2 → (view_part b s (k - 2) ≡ part_text b s k) × (view_buffer_of b s (k - 2) l ≡ part_buffer b s k l)
     unfolding part_text part_buffer
-    view_part_law z h = (simp (ok, lt_ltb k (views b + 2) h, le_ltb k 2 z), simp (ok, lt_ltb k (views b + 2) h, le_ltb k 2 z))
+    view_part_law z h = (simp (ok, lt-ltb k (views b + 2) h, le-ltb k 2 z), simp (ok, lt-ltb k (views b + 2) h, le-ltb k 2 z))
 
 -- ---- the box line
 
@@ -61,11 +61,11 @@ module _ (b : List ℕ) (h : Header) (g : Headed b h) where
   unfolding box_line
   no_box p =
       let n : (header_value b).vertices ≡ h.vertices = ap (λ (k : Header). k.vertices) (sym g.is) in
-      simp (lt_ltb (header_value b).vertices 2 (omega arith)) (ap (λ (k : Header). no_box_words ++ box_end (retired k)) g.is)
+      simp (lt-ltb (header_value b).vertices 2 (omega arith)) (ap (λ (k : Header). no_box_words ++ box_end (retired k)) g.is)
 
   pub some_box : 2 ≤ h.vertices → box_words (box_to (vertex_in_of b) h.vertices (last_segment_of (closed h) h.vertices)) ++ box_end (retired h) ≡ box_line b
   unfolding box_line
   some_box p =
       let n : (header_value b).vertices ≡ h.vertices = ap (λ (k : Header). k.vertices) (sym g.is) in
-      simp (le_ltb (header_value b).vertices 2 (omega arith))
+      simp (le-ltb (header_value b).vertices 2 (omega arith))
       (ap (λ (k : Header). box_words (box_to (vertex_in_of b) k.vertices (last_segment_of (closed k) k.vertices)) ++ box_end (retired k)) g.is)

@@ -7,7 +7,7 @@ use mathlib.Core.List.{List, ◌∷◌, ◌++◌}
 use lib.ListN.{get_or, take, drop}
 use lib.Dec.{ltb, eqb}
 use lib.Ieee.{Float, binary64, of_bits}
-use borrow.Author.Tests.{ltb_true, ltb_false, lt_ltb, le_ltb, eq_eqb}
+use borrow.Author.Tests.{ltb-true, ltb-false, lt-ltb, le-ltb, eq-eqb}
 use Rattle.real.specs.Refusal.{bad_number, bad_sheet, bad_record}
 use Rattle.real.specs.Reply.{given, check}
 use Rattle.plane.specs.Grade.{double}
@@ -79,16 +79,16 @@ module _ (v w x y : ℕ) (rest : List ℕ) where
 
   -- a sheet's text by what it reads of its bytes
   abbrev text : Bool → Bool → List ℕ → (ℕ → PlineVertex) → (ℕ → List Float) → (ℕ → List ℕ) → List ℕ
-  text good shut end vertex numbers record_at =
+  text good shut end vertex numbers record-at =
       let n = vertices a in
       answer_text
       (check good bad_sheet
-      (check (all (λ k. fields_ok (record_at k)) (views a)) bad_record
+      (check (all (λ k. fields_ok (record-at k)) (views a)) bad_record
       (check (all (λ k. vertex_ok double (vertex k)) n) bad_number
       (given
       (outline_line n (views a) shut
       ++ (cond (ltb n 2) no_box_words (box_words (box_to vertex n (last_segment_of shut n))) ++ end)
-      ++ numbered (view_text shut (numbers (3 * n))) 0 (tab (λ k. record_value (record_at k)) (views a)))))))
+      ++ numbered (view_text shut (numbers (3 * n))) 0 (tab (λ k. record_value (record-at k)) (views a)))))))
 
   same : (end : List ℕ) → ltb (le16 a 2) unknown_flags ≡ ltb (le16 b 2) unknown_flags → closed (header_value a) ≡ closed (header_value b) → text_ending end a ≡ text_ending end b
   unfolding text_ending sheet_of records_of le16
@@ -100,7 +100,7 @@ module _ (n : ℕ) (bit : n / 2 % 2 ≡ 0) where
   clear_bit = ap (λ (m : ℕ). eqb m 1) bit
 
   set_bit : eqb ((n + 2) / 2 % 2) 1 ≡ true
-  set_bit = eq_eqb ((n + 2) / 2 % 2) 1 (omega arith)
+  set_bit = eq-eqb ((n + 2) / 2 % 2) 1 (omega arith)
 
   closed_alike : eqb ((n + 2) % 2) 1 ≡ eqb (n % 2) 1
   closed_alike = let e : (n + 2) % 2 ≡ n % 2 = omega arith in ap (λ (m : ℕ). eqb m 1) e
@@ -109,8 +109,8 @@ module _ (n : ℕ) (bit : n / 2 % 2 ≡ 0) where
   known_alike = go (ltb n unknown_flags) refl
     where
       go : (t : Bool) → ltb n unknown_flags ≡ t → ltb (n + 2) unknown_flags ≡ ltb n unknown_flags
-      go true e = let h = ltb_true n unknown_flags e in lt_ltb (n + 2) unknown_flags (omega arith) ∙ sym e
-      go false e = let h = ltb_false n unknown_flags e in le_ltb (n + 2) unknown_flags (omega arith) ∙ sym e
+      go true e = let h = ltb-true n unknown_flags e in lt-ltb (n + 2) unknown_flags (omega arith) ∙ sym e
+      go false e = let h = ltb-false n unknown_flags e in le-ltb (n + 2) unknown_flags (omega arith) ∙ sym e
 
 -- the text that stands has the word where the bit says so
 stands : (b : List ℕ) → sheet_text b ≡ text_ending (box_end (retired (header_value b))) b

@@ -2,10 +2,10 @@
 use mathlib.Core.Path.{◌≡◌}
 use Rattle.job.specs.Sheet.{open_reply}
 use Rattle.job.specs.declared.sheet.OpenAnswer.{OpenAnswer}
-use Rattle.job.specs.declared.sheet.OpenAnswer.TheVariants as open_case
+use Rattle.job.specs.declared.sheet.OpenAnswer.TheVariants as open-case
 
 pub open_same : (a b : OpenAnswer) → open_reply a ≡ open_reply b → a ≡ b
-open_same (open_case.Given x) (open_case.Given y) e = cc
-open_same (open_case.Given x) (open_case.Refused m) e = cc
-open_same (open_case.Refused n) (open_case.Given y) e = cc
-open_same (open_case.Refused n) (open_case.Refused m) e = cc
+open_same (open-case.Given x) (open-case.Given y) e = cc
+open_same (open-case.Given x) (open-case.Refused m) e = cc
+open_same (open-case.Refused n) (open-case.Given y) e = cc
+open_same (open-case.Refused n) (open-case.Refused m) e = cc

@@ -4,7 +4,7 @@ use mathlib.Core.Bool.{Bool, true, false}
 use mathlib.Core.List.{List, ◌++◌}
 use Prim.Native.Nat.{ℕ, ◌+◌, ◌*◌, ◌≤◌, ◌<◌}
 use native.Mathlib.Omega.{arith}
-use lib.ListN.{length, take, drop, length_append, length_drop}
+use lib.ListN.{length, take, drop, length-append, length-drop}
 use lib.Seq.{take_at}
 use lib.Ieee.{Float}
 use Rattle.real.specs.Refusal.{bad_number, bad_sheet, bad_record}
@@ -85,5 +85,5 @@ module _ (b : List ℕ) (o : Opened) (e : open_of b ≡ given o) where
       let h = headed b (header_value b) opened_accepted.header refl in
       let m : length (outline_of b) ≡ 3 * vertices b = length_tab _ (3 * vertices b) in
       ap (λ (r : Reply Opened). length (buffer_after r l (outline_of b ++ drop (3 * vertices b) l))) e
-      ∙ length_append (outline_of b) (drop (3 * vertices b) l)
-      ∙ omega (arith, length_drop (3 * vertices b) l)
+      ∙ length-append (outline_of b) (drop (3 * vertices b) l)
+      ∙ omega (arith, length-drop (3 * vertices b) l)

@@ -3,7 +3,7 @@ use mathlib.Core.Path.{◌≡◌, refl, sym, ap, ap₂, ◌∙◌}
 use mathlib.Core.Bool.{Bool}
 use mathlib.Core.List.{List, ◌++◌}
 use Prim.Native.Nat.{ℕ, zero, suc, ◌+◌, ◌*◌, ◌≤◌, ◌<◌}
-use native.Mathlib.Nat.{le_of_suc_le_suc, not_suc_le_zero}
+use native.Mathlib.Nat.{le_of_suc-le-suc, not-suc-le-zero}
 use native.Mathlib.Omega.{arith}
 use lib.ListN.{length, drop}
 use lib.Ieee.{Float, neg}
@@ -52,13 +52,13 @@ cut_lists closed s d v e q =
 
 flat_at : (f : ℕ → Vert Float) (n k : ℕ) (r : List Float) → k < n → src_of (flat (tab f n) ++ r) k ≡ f k
 unfolding flat tab
-flat_at f zero k r h = absurd (not_suc_le_zero h)
+flat_at f zero k r h = absurd (not-suc-le-zero h)
 flat_at f (suc n) zero r h = refl
 flat_at f (suc n) (suc k) r h =
     let e₀ : 3 * suc k ≡ suc (suc (suc (3 * k))) = omega arith in
     let e₁ : 3 * suc k + 1 ≡ suc (suc (suc (3 * k + 1))) = omega arith in
     let e₂ : 3 * suc k + 2 ≡ suc (suc (suc (3 * k + 2))) = omega arith in
-    rw (e₁, e₂, e₀) (flat_at (λ i. f (suc i)) n k r (le_of_suc_le_suc h))
+    rw (e₁, e₂, e₀) (flat_at (λ i. f (suc i)) n k r (le_of_suc-le-suc h))
 
 module _ (s : List Float) (d : PlineViewData) (l : List Float) where
   pub list_written : Lists s d (length l) → list_buffer double s d l ≡ written double s d l

@@ -2,7 +2,7 @@
 use mathlib.Core.Path.{◌≡◌, sym, ap, ap₂, ◌∙◌}
 use mathlib.Core.List.{List, ◌++◌, append_assoc}
 use Prim.Native.Nat.{ℕ, suc, ◌+◌, ◌-◌}
-use native.Mathlib.Numerals.{add_two}
+use native.Mathlib.Numerals.{add-two}
 use native.Mathlib.Omega.{arith}
 use lib.ListN.{take}
 use lib.Ieee.{Float}
@@ -43,7 +43,7 @@ module _ (b : List ℕ) (a : Accepted b) where
   whole : joined part (views b + 2) ≡ whole_text b
   unfolding whole_text front_part
   whole =
-      ap (joined part) (add_two (views b)) ∙ joined_first part (suc (views b))
+      ap (joined part) (add-two (views b)) ∙ joined_first part (suc (views b))
       ∙ ap (λ (t : List ℕ). part 0 ++ t) (joined_first (λ k. part (suc k)) (views b))
       ∙ sym (append_assoc (part 0) (part 1) (joined (λ k. part (suc (suc k))) (views b)))
       ∙ ap₂ (λ (t u : List ℕ). t ++ u)

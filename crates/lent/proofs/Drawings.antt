@@ -7,7 +7,7 @@ use native.Mathlib.Omega.{arith}
 use lib.ListN.{length, drop}
 use lib.Dec.{leb}
 use lib.Ieee.{Float}
-use borrow.Author.Tests.{le_leb, lt_leb, leb_true}
+use borrow.Author.Tests.{le-leb, lt-leb, leb-true}
 use Rattle.real.specs.Refusal.{lacks_room}
 use Rattle.real.specs.Reply.{Reply, refused, given, check, and_then}
 use Rattle.real.proofs.Replies.{same_given, never_given, check_passed, check_failed}
@@ -23,7 +23,7 @@ use Rattle.lent.specs.Values.{drawn_values, unplaced}
 pub nothing_placed : (d : Reply Drawn) (k : ℕ) (w : List ℕ) (l : List Float) → length w < 2 → k ≡ unplaced d → BothAnswered drawn_values d (both w l) k (both w l)
 unfolding and_then code_of held_by lent_both unplaced
 nothing_placed (refused n) k w l h e = record { returned = e; holds = refl }
-nothing_placed (given o) k w l h e = record { returned = e ∙ simp (lt_leb 2 (length w) h); holds = simp (lt_leb 2 (length w) h) }
+nothing_placed (given o) k w l h e = record { returned = e ∙ simp (lt-leb 2 (length w) h); holds = simp (lt-leb 2 (length w) h) }
 
 -- whatever a buffer had room for, the drawing's own refusals came first
 module _ (m : ℕ) where
@@ -45,7 +45,7 @@ module _ {w : List ℕ} {l l' : List Float} (room : 2 ≤ length w) where
   drawing_refused (refused n) k e h = record { returned = cc; holds = ap (both w) h }
   drawing_refused (given o) k e h =
       let f = check_failed {b = leb (length o.numbers) (length l)} lacks_room _ e in
-      record { returned = f.1 ∙ simp (le_leb 2 (length w) room, f.0); holds = ap (both w) (simp f.0 at h) ∙ simp (le_leb 2 (length w) room, f.0) }
+      record { returned = f.1 ∙ simp (le-leb 2 (length w) room, f.0); holds = ap (both w) (simp f.0 at h) ∙ simp (le-leb 2 (length w) room, f.0) }
 
   pub drawing_given : {w' : List ℕ} (d : Reply Drawn) (r : DxfOutline) (code : ℕ) → given r ≡ and_then d (room_for (length l)) → l' ≡ handed_over d l
       → Answered itself (given (r.vertices ∷ cond r.closed 1 0 ∷ [])) w code w' → BothAnswered drawn_values d (both w l) code (both w' l')
@@ -55,6 +55,6 @@ module _ {w : List ℕ} {l l' : List Float} (room : 2 ≤ length w) where
       let p = check_passed {b = leb (length o.numbers) (length l)} lacks_room _ e in
       let b = subst (λ (r : DxfOutline). Answered itself (given (r.vertices ∷ cond r.closed 1 0 ∷ [])) w code w') (same_given p.1) a in
       record {
-        returned = (simp (le_leb 2 (length w) room) at b.returned) ∙ simp (le_leb 2 (length w) room, p.0);
-        holds = ap₂ both (simp (le_leb 2 (length w) room) at b.holds) (simp p.0 at h) ∙ simp (le_leb 2 (length w) room, p.0);
+        returned = (simp (le-leb 2 (length w) room) at b.returned) ∙ simp (le-leb 2 (length w) room, p.0);
+        holds = ap₂ both (simp (le-leb 2 (length w) room) at b.holds) (simp p.0 at h) ∙ simp (le-leb 2 (length w) room, p.0);
       }

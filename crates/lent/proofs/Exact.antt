@@ -5,7 +5,7 @@ use mathlib.Core.List.{List, [], ◌∷◌}
 use Prim.Native.Nat.{ℕ}
 use lib.ListN.{length}
 use lib.Ieee.{Float}
-use borrow.Author.Tests.{leb_true}
+use borrow.Author.Tests.{leb-true}
 use Rattle.real.specs.Refusal.{lacks_room}
 use Rattle.real.specs.Reply.{given, and_then}
 use Rattle.real.proofs.Replies.{same_given, check_given, and_both, went_on}
@@ -42,6 +42,6 @@ module _ (s : List Float) (d : PlineViewData) (before after : Both) where
       let w = stored _ (subst (λ (v : Both). lent_both v before ≡ given after) v a.2) in
       let l = flat (listed double s d) in
       let f : InFront l before.numbers after.numbers (length l) =
-      subst (λ (a : Both). InFront l before.numbers a.numbers (length l)) (sym w.1) (in_front l before.numbers (length l) refl (leb_true _ _ w.0)) in
+      subst (λ (a : Both). InFront l before.numbers a.numbers (length l)) (sym w.1) (in_front l before.numbers (length l) refl (leb-true _ _ w.0)) in
       let g : InFront l before.numbers after.numbers (needed d) = subst (λ (n : ℕ). InFront l before.numbers after.numbers n) (list_numbers double s d) f in
       record { count = ap (λ (a : Both). a.words) w.1; written = g.written; kept = g.kept; size = g.size }

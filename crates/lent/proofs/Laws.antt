@@ -1,12 +1,12 @@
 -- What a call leaves, by how it came to its end.
 use mathlib.Core.Path.{◌≡◌, refl, sym, ap, ap₂, subst, ◌∙◌}
 use mathlib.Core.Bool.{Bool, true, false}
-use mathlib.Core.List.{List, ◌++◌, append_nil}
+use mathlib.Core.List.{List, ◌++◌, append-nil}
 use native.Mathlib.Omega.{arith}
 use Prim.Native.Nat.{ℕ, ◌≤◌, ◌<◌}
-use lib.ListN.{length, drop_of_length_le}
+use lib.ListN.{length, drop_of_length-le}
 use lib.Ieee.{Float}
-use borrow.Author.Tests.{le_leb, lt_leb}
+use borrow.Author.Tests.{le-leb, lt-leb}
 use Rattle.real.specs.Refusal.{lacks_room}
 use Rattle.real.specs.Reply.{Reply, refused, given, check, and_then}
 use Rattle.lent.specs.Lent.{code_of, held_by, Left, lent, in_front, has_room_of, itself, Answered, Both, both, lent_both, BothAnswered}
@@ -34,11 +34,11 @@ module _ {A B : Type 0} (values : A → List B) {a : A} {before : List B} where
   -- the buffer is short
   pub short : length before < length (values a) → Answered values (given a) before lacks_room before
   unfolding and_then code_of held_by lent
-  short h = record { returned = simp (lt_leb _ _ h); holds = simp (lt_leb _ _ h) }
+  short h = record { returned = simp (lt-leb _ _ h); holds = simp (lt-leb _ _ h) }
 
   pub stores : {after : List B} → length (values a) ≤ length before → after ≡ in_front (values a) before → Answered values (given a) before 0 after
   unfolding and_then code_of held_by lent
-  stores h e = record { returned = simp (le_leb _ _ h); holds = simp (le_leb _ _ h) e }
+  stores h e = record { returned = simp (le-leb _ _ h); holds = simp (le-leb _ _ h) e }
 
   -- a buffer just as long holds the values and nothing else
   pub fills : {after : List B} {n : ℕ} → length (values a) ≡ length before → Answered values (given a) before n after → after ≡ values a
@@ -46,7 +46,7 @@ module _ {A B : Type 0} (values : A → List B) {a : A} {before : List B} where
   fills h w =
       let fits : length (values a) ≤ length before = omega (arith, h) in
       let all : length before ≤ length (values a) = omega (arith, h) in
-      (simp (le_leb _ _ fits) at w.holds) ∙ ap (λ (l : List B). values a ++ l) (drop_of_length_le before all) ∙ append_nil (values a)
+      (simp (le-leb _ _ fits) at w.holds) ∙ ap (λ (l : List B). values a ++ l) (drop_of_length-le before all) ∙ append-nil (values a)
 
 -- the same values, of another answer
 pub stored_as : {A A' B : Type 0} (values : A → List B) (values' : A' → List B) {a : A} {a' : A'} {before after : List B} {n : ℕ} → values a ≡ values' a'
@@ -97,13 +97,13 @@ went {values = values} {before} w = went_by (has_room_of values before) refl w.r
 module _ {A : Type 0} (values : A → Both) {a : A} {w : List ℕ} {l : List Float} where
   pub first_short : length w < length (values a).words → BothAnswered values (given a) (both w l) lacks_room (both w l)
   unfolding and_then code_of held_by lent_both
-  first_short h = record { returned = simp (lt_leb _ _ h); holds = simp (lt_leb _ _ h) }
+  first_short h = record { returned = simp (lt-leb _ _ h); holds = simp (lt-leb _ _ h) }
 
   module _ (room : length (values a).words ≤ length w) where
     second_went : {l' : List Float} {n : ℕ} → (n ≡ 0 → ⊥) → Went (values a).numbers l n l' → BothAnswered values (given a) (both w l) n (both w l')
     unfolding and_then code_of held_by lent_both
     second_went some (full e z h) = absurd (some z)
-    second_went some (none e z h) = record { returned = z ∙ simp (le_leb _ _ room, e); holds = ap (both w) h ∙ simp (le_leb _ _ room, e) }
+    second_went some (none e z h) = record { returned = z ∙ simp (le-leb _ _ room, e); holds = ap (both w) h ∙ simp (le-leb _ _ room, e) }
 
     pub second_short : {l' : List Float} {n : ℕ} → (n ≡ 0 → ⊥) → Answered itself (given (values a).numbers) l n l' → BothAnswered values (given a) (both w l) n (both w l')
     second_short some s = second_went some (went s)
@@ -112,7 +112,7 @@ module _ {A : Type 0} (values : A → Both) {a : A} {w : List ℕ} {l : List Flo
     unfolding and_then code_of held_by lent_both
     both_went zero (none e z h) q = let f : ◌≡◌ {A = ℕ} 0 8 = sym zero ∙ z in absurd (omega arith)
     both_went zero (full e z h) (full e' z' h') = record { returned = z' ∙ simp (e, e'); holds = ap₂ both h' h ∙ simp (e, e') }
-    both_went zero (full e z h) (none e' z' h') = let f : true ≡ false = sym (le_leb _ _ room) ∙ e' in let g : ◌≡◌ {A = ℕ} 0 1 = cc in absurd (omega arith)
+    both_went zero (full e z h) (none e' z' h') = let f : true ≡ false = sym (le-leb _ _ room) ∙ e' in let g : ◌≡◌ {A = ℕ} 0 1 = cc in absurd (omega arith)
 
     pub both_stored : {w' : List ℕ} {l' : List Float} {n m : ℕ} → n ≡ 0 → Answered itself (given (values a).numbers) l n l' → Answered itself (given (values a).words) w m w'
         → BothAnswered values (given a) (both w l) m (both w' l')

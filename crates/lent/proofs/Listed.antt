@@ -6,7 +6,7 @@ use Prim.Native.Nat.{ℕ, ◌≤◌, ◌<◌}
 use lib.Dec.{leb, ltb}
 use lib.ListN.{length, drop}
 use lib.Ieee.{Float}
-use borrow.Author.Tests.{le_leb, lt_leb}
+use borrow.Author.Tests.{le-leb, lt-leb}
 use Rattle.real.specs.Refusal.{bad_number, bad_outline, bad_index, bad_offset, lacks_room}
 use Rattle.real.specs.Reply.{Reply, refused, given, check, and_then}
 use Rattle.plane.specs.Grade.{double}
@@ -37,7 +37,7 @@ nothing : {out : List Float} {count count' : List ℕ} {n : ℕ} (l : List Float
 unfolding and_then code_of held_by lent lent_both
 nothing {out} l (refused m) h w = record { returned = w.returned; holds = ap (λ (c : List ℕ). both c out) w.holds }
 nothing {out} l (given k) h w =
-    record { returned = (simp (lt_leb _ _ h) at w.returned) ∙ simp (lt_leb _ _ h); holds = ap (λ (c : List ℕ). both c out) (simp (lt_leb _ _ h) at w.holds) ∙ simp (lt_leb _ _ h) }
+    record { returned = (simp (lt-leb _ _ h) at w.returned) ∙ simp (lt-leb _ _ h); holds = ap (λ (c : List ℕ). both c out) (simp (lt-leb _ _ h) at w.holds) ∙ simp (lt-leb _ _ h) }
 
 -- with a place for it, by whether the list has room
 by_room : {out out' : List Float} {count count' : List ℕ} {n : ℕ} (l : List Float) (x : Reply ℕ) (b : Bool) → has_room_of l out ≡ b → 1 ≤ length count
@@ -45,9 +45,9 @@ by_room : {out out' : List Float} {count count' : List ℕ} {n : ℕ} (l : List 
     → BothAnswered itself (and_then x (λ k. given (both (k ∷ []) l))) (both count out) n (both count' out')
 unfolding and_then code_of held_by lent lent_both buffer_after
 by_room l (refused m) b e h o w = record { returned = w.returned; holds = ap₂ both w.holds o }
-by_room l (given k) false e h o w = record { returned = w.returned ∙ simp (le_leb _ _ h, e); holds = ap₂ both w.holds o ∙ simp (le_leb _ _ h, e) }
+by_room l (given k) false e h o w = record { returned = w.returned ∙ simp (le-leb _ _ h, e); holds = ap₂ both w.holds o ∙ simp (le-leb _ _ h, e) }
 by_room l (given k) true e h o w =
-    record { returned = (simp (le_leb _ _ h) at w.returned) ∙ simp (le_leb _ _ h, e); holds = ap₂ both (simp (le_leb _ _ h) at w.holds) o ∙ simp (le_leb _ _ h, e) }
+    record { returned = (simp (le-leb _ _ h) at w.returned) ∙ simp (le-leb _ _ h, e); holds = ap₂ both (simp (le-leb _ _ h) at w.holds) o ∙ simp (le-leb _ _ h, e) }
 
 module _ (s : List Float) (d : PlineViewData) where
   list_is : (m : ℕ) → list_of double s d m ≡ and_then (vertex_count_of double s d) (λ n. check (leb (needed d) m) lacks_room (given n))

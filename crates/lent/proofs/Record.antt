@@ -7,7 +7,7 @@ use native.Mathlib.Omega.{arith}
 use lib.Dec.{leb}
 use lib.ListN.{length, drop}
 use lib.Ieee.{Float}
-use borrow.Author.Tests.{lt_ltb}
+use borrow.Author.Tests.{lt-ltb}
 use Rattle.real.specs.Refusal.{lacks_room}
 use Rattle.real.specs.Reply.{Reply, refused, given, check, and_then}
 use Rattle.view.specs.Needs.{Placed}
@@ -38,7 +38,7 @@ module _ (s : List Float) where
   placed_lent d before p =
       let start : d.start_index < word_limit = omega (arith, p.start, p.few) in
       let offset : d.end_index_offset < word_limit = omega (arith, p.offset, p.few) in
-      simp (lt_ltb _ _ start, lt_ltb _ _ offset, record_length d) (by_room (record_bytes d) before (leb record_size (length before)))
+      simp (lt-ltb _ _ start, lt-ltb _ _ offset, record_length d) (by_room (record_bytes d) before (leb record_size (length before)))
 
   pub placed_answered : {before after : List ℕ} {n : ℕ} (reply : Reply PlineViewData) → ((d : PlineViewData) → given d ≡ reply → Placed s d) → RecordAnswered reply before n after
       → Answered record_bytes reply before n after

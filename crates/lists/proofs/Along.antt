@@ -1,7 +1,7 @@
 -- A view's list runs along the source segments from its start on; none of them is the last one exactly when start plus offset stays before it, and a trim keeps it there.
 use mathlib.Core.Path.{◌≡◌, ap, ◌∙◌}
 use Prim.Native.Nat.{ℕ, ◌+◌, ◌-◌, ◌%◌, ◌<◌, ◌≤◌}
-use native.Mathlib.Nat.{mod_add_mod, add_assoc, mod_eq_of_lt}
+use native.Mathlib.Nat.{mod-add-mod, add_assoc, mod-eq_of_lt}
 use native.Mathlib.Decide.{dec_lt}
 use native.Mathlib.Omega.{arith}
 use mathlib.Core.Bool.{Bool, true, false, cond}
@@ -24,13 +24,13 @@ module _ {A : Type 0} (neg : A → A) (z : A) (src : ℕ → Vert A) (n : ℕ) (
     where
       go : Dec (k < r.offset) → position (at_by true k) ≡ position (src (wrapped (segment true k) 1 n))
       go (yes h) = ap position (back_inner neg z src n r k p h)
-      go (no h) = ap position (back_final neg z src n r k p (omega arith)) ∙ simp (mod_add_mod, add_assoc)
+      go (no h) = ap position (back_final neg z src n r k p (omega arith)) ∙ simp (mod-add-mod, add_assoc)
 
   ends_by : (b : Bool) (k : ℕ) → k < r.offset → position (at_by b (k + 1)) ≡ position (src (cond b (segment b k) (wrapped (segment b k) 1 n)))
-  ends_by false k h = ap position (at_pos z src n r (k + 1) z (omega arith) (omega arith)) ∙ simp (mod_add_mod, add_assoc)
+  ends_by false k h = ap position (at_pos z src n r (k + 1) z (omega arith) (omega arith)) ∙ simp (mod-add-mod, add_assoc)
   ends_by true k h =
       let e : r.offset - (k + 1) + 1 ≡ r.offset - k = omega arith in
-      begins_by true (k + 1) (omega arith) (omega arith) ∙ simp (mod_add_mod, add_assoc, e)
+      begins_by true (k + 1) (omega arith) (omega arith) ∙ simp (mod-add-mod, add_assoc, e)
 
   bulges_by : (b : Bool) (k : ℕ) → 0 < k → k < r.offset → (at_by b k).bulge ≡ cond b (neg (src (segment b k)).bulge) (src (segment b k)).bulge
   bulges_by false k p h = ap (λ (v : Vert A). v.bulge) (at_inner z src n r k p h)
@@ -46,15 +46,15 @@ module _ {A : Type 0} (n : ℕ) (r : View A) where
   before_last h k q = go r.inverted
     where
       go : (b : Bool) → wrapped r.start (cond b (r.offset - k) k) n + 1 < n
-      go true = let e : (r.start + (r.offset - k)) % n ≡ r.start + (r.offset - k) = mod_eq_of_lt (omega arith) in rw e (omega arith)
-      go false = let e : (r.start + k) % n ≡ r.start + k = mod_eq_of_lt (omega arith) in rw e (omega arith)
+      go true = let e : (r.start + (r.offset - k)) % n ≡ r.start + (r.offset - k) = mod-eq_of_lt (omega arith) in rw e (omega arith)
+      go false = let e : (r.start + k) % n ≡ r.start + k = mod-eq_of_lt (omega arith) in rw e (omega arith)
 
   -- and only then: the last segment is n - 1 - start past the start
   abbrev to_last : ℕ
   to_last = n - 1 - r.start
 
   reached : r.start < n → (w : ℕ) → w ≡ to_last → wrapped r.start w n + 1 < n → 1 ≤ 0
-  reached s w e h = let q : (r.start + w) % n ≡ r.start + w = mod_eq_of_lt (omega arith) in omega (arith, rw q at h)
+  reached s w e h = let q : (r.start + w) % n ≡ r.start + w = mod-eq_of_lt (omega arith) in omega (arith, rw q at h)
 
   reaches : r.start < n → to_last ≤ r.offset → (b : Bool) → ((k : ℕ) → k ≤ r.offset → wrapped r.start (cond b (r.offset - k) k) n + 1 < n) → 1 ≤ 0
   reaches s p true f = reached s (r.offset - (r.offset - to_last)) (omega arith) (f (r.offset - to_last) (omega arith))
@@ -71,7 +71,7 @@ module _ {A : Type 0} (n : ℕ) (r : View A) where
 module _ {A : Type 0} (z : A) (src : ℕ → Vert A) (n : ℕ) (r : View A) (before : r.start + r.offset < n - 1) where
   part_before : (a b : ℕ) → a < b → b < r.offset + 2 → (part z src n a b r).start + (part z src n a b r).offset < n - 1
   unfolding part
-  part_before a b below within = let e : (r.start + a) % n ≡ r.start + a = mod_eq_of_lt (omega arith) in rw e (omega arith)
+  part_before a b below within = let e : (r.start + a) % n ≡ r.start + a = mod-eq_of_lt (omega arith) in rw e (omega arith)
 
   pub trim_before : (i j : ℕ) → i < j → j < r.offset + 2 → (trim_view z src n i j r).start + (trim_view z src n i j r).offset < n - 1
   unfolding trim_view

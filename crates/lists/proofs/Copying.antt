@@ -3,9 +3,9 @@ use mathlib.Core.Path.{◌≡◌, refl, sym, ap, ◌∙◌}
 use mathlib.Core.List.{List, ◌++◌}
 use Prim.Native.Nat.{ℕ, suc, ◌+◌, ◌≤◌, ◌<◌}
 use native.Mathlib.Omega.{arith}
-use native.Mathlib.Numerals.{add_one}
-use lib.ListN.{length, set, get_or, take, drop, length_set}
-use lib.Seq.{take_length, paste_suc}
+use native.Mathlib.Numerals.{add-one}
+use lib.ListN.{length, set, get_or, take, drop, length-set}
+use lib.Seq.{take-length, paste-suc}
 
 module _ {A : Type 0} (values before : List A) where
   -- the list after k turns
@@ -17,7 +17,7 @@ module _ {A : Type 0} (values before : List A) where
       let e : 0 + k ≡ k = omega arith in
       let f : 0 + suc k ≡ suc k = omega arith in
       let h : 0 + k < length before = omega arith in
-      simp (e, f) at (paste_suc before 0 values k z h hv) ∙ ap copied (sym (add_one k))
+      simp (e, f) at (paste-suc before 0 values k z h hv) ∙ ap copied (sym (add-one k))
 
   -- k values are copied, to a list with room for all
   pub record Copying (out : List A) (k : ℕ) : Type 0 where
@@ -33,10 +33,10 @@ module _ {A : Type 0} (values before : List A) where
   copy_more {k = k} z c h =
       record {
         some = omega arith;
-        size = simp length_set c.size;
+        size = simp length-set c.size;
         room = c.room;
         is = ap (λ (l : List A). set l k (get_or values k z)) c.is ∙ copied_more k z h (omega arith);
       }
 
   pub copy_all : {out : List A} {k : ℕ} → Copying out k → length values ≤ k → out ≡ values ++ drop (length values) before
-  copy_all {k = k} c h = let e : k ≡ length values = omega arith in c.is ∙ ap copied e ∙ ap (λ (l : List A). l ++ drop (length values) before) (take_length values)
+  copy_all {k = k} c h = let e : k ≡ length values = omega arith in c.is ∙ ap copied e ∙ ap (λ (l : List A). l ++ drop (length values) before) (take-length values)

@@ -1,7 +1,7 @@
 -- Reversal and trim keep a record's numbers in range, its start and offset in the outline, and its bulges equal where its offset is 0. C and B are what a coordinate and a bulge have to meet.
 use mathlib.Core.Path.{◌≡◌}
 use Prim.Native.Nat.{ℕ, ◌+◌, ◌-◌, ◌%◌, ◌<◌, ◌≤◌}
-use native.Mathlib.Nat.{mod_lt}
+use native.Mathlib.Nat.{mod-lt}
 use native.Mathlib.Decide.{dec_lt}
 use native.Mathlib.Omega.{arith}
 use mathlib.Core.Bool.{Bool, true, false, cond}
@@ -34,9 +34,9 @@ module _ {A : Type 0} (C B : A → Type 0) (z : A) (src : ℕ → Vert A) (n : �
     where
       go : Place r.offset k → InRange C B (forward z src n r k)
       go (first e) = rw (e, at_first z src n r) g.first
-      go (inner p q) = rw (at_inner z src n r k p q) (sound ((r.start + k) % n) (mod_lt _ some))
+      go (inner p q) = rw (at_inner z src n r k p q) (sound ((r.start + k) % n) (mod-lt _ some))
       go (final p e) = rw (e, at_final z src n r p)
-          (let v : InRange C B (src ((r.start + r.offset) % n)) = sound _ (mod_lt _ some) in record { x = v.x; y = v.y; bulge = g.end_bulge })
+          (let v : InRange C B (src ((r.start + r.offset) % n)) = sound _ (mod-lt _ some) in record { x = v.x; y = v.y; bulge = g.end_bulge })
       go (past e) = absurd (omega arith)
 
   forward_pos : (k : ℕ) → k < r.offset + 2 → C (forward z src n r k).x × C (forward z src n r k).y
@@ -50,7 +50,7 @@ module _ {A : Type 0} (C B : A → Type 0) (z : A) (src : ℕ → Vert A) (n : �
   unfolding part
   part_good a b below within =
       record {
-        start = mod_lt (r.start + a) some;
+        start = mod-lt (r.start + a) some;
         offset = omega (arith, g.offset);
         first = forward_in a (omega arith);
         end_bulge = (forward_in (b - 1) (omega arith)).bulge;

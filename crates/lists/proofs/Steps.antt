@@ -5,7 +5,7 @@ use native.Mathlib.Decide.{dec_lt}
 use native.Mathlib.Omega.{arith}
 use mathlib.Core.Bool.{cond}
 use lib.Dec.{ltb}
-use borrow.Author.Tests.{lt_ltb, le_ltb}
+use borrow.Author.Tests.{lt-ltb, le-ltb}
 use Rattle.lists.specs.Plain.{Vert, with_bulge, tab, at, turn_at, trim_at, turn_list, trim_list}
 use Rattle.lists.proofs.Tab.{length_tab, get_d_tab, tab_ext}
 
@@ -21,11 +21,11 @@ module _ {A : Type 0} (neg : A → A) (z : A) where
         go : Dec (suc k < n) → turn_at neg z (turn_at neg z f n) n k ≡ f k
         go (yes p) =
             let e₂ : n - suc (suc (n - suc (suc k))) ≡ k = omega arith in
-            simp (lt_ltb (suc k) n p, lt_ltb (suc (n - suc (suc k))) n (omega arith), e, e₂, neg_neg)
+            simp (lt-ltb (suc k) n p, lt-ltb (suc (n - suc (suc k))) n (omega arith), e, e₂, neg_neg)
         go (no p) =
             let e₂ : n - 1 ≡ k = omega arith in
             let last' : (f k).bulge ≡ z = rw e₂ at last in
-            simp (le_ltb (suc k) n (omega arith), e) (λ i. record { x = (f k).x; y = (f k).y; bulge = sym last' i })
+            simp (le-ltb (suc k) n (omega arith), e) (λ i. record { x = (f k).x; y = (f k).y; bulge = sym last' i })
 
   pub trim_turn : (f : ℕ → Vert A) (n i j k : ℕ) → i < j → j < n → k ≤ j - i
       → trim_at z (turn_at neg z f n) i j k ≡ turn_at neg z (trim_at z f (n - suc j) (n - suc i)) (suc (j - i)) k
@@ -39,14 +39,14 @@ module _ {A : Type 0} (neg : A → A) (z : A) where
       go (yes p) =
           let e₂ : n - suc j + (suc (j - i) - suc (suc k)) ≡ n - suc (suc (i + k)) = omega arith in
           simp (
-            lt_ltb k (j - i) p,
-            lt_ltb (suc (i + k)) n (omega arith),
-            lt_ltb (suc k) (suc (j - i)) (omega arith),
-            lt_ltb (suc (j - i) - suc (suc k)) (n - suc i - (n - suc j)) (omega arith),
+            lt-ltb k (j - i) p,
+            lt-ltb (suc (i + k)) n (omega arith),
+            lt-ltb (suc k) (suc (j - i)) (omega arith),
+            lt-ltb (suc (j - i) - suc (suc k)) (n - suc i - (n - suc j)) (omega arith),
             e,
             e₂,
           )
-      go (no p) = simp (le_ltb k (j - i) (omega arith), le_ltb (suc k) (suc (j - i)) (omega arith), e)
+      go (no p) = simp (le-ltb k (j - i) (omega arith), le-ltb (suc k) (suc (j - i)) (omega arith), e)
 
 module _ {A : Type 0} (z : A) where
   pub trim_tab : (f : ℕ → Vert A) (n i j : ℕ) → i < j → j < n → trim_list z i j (tab f n) ≡ tab (trim_at z f i j) (suc (j - i))
@@ -61,7 +61,7 @@ module _ {A : Type 0} (neg : A → A) (z : A) where
     where
       go : (k : ℕ) → k < n → Dec (suc k < n) → with_bulge (f (n - suc k)) (cond (ltb (suc k) n) (neg (at z (tab f n) (n - suc (suc k))).bulge) z) ≡ with_bulge (f (n - suc k)) (cond (ltb (suc k) n) (neg (f (n - suc (suc k))).bulge) z)
       go k h (yes p) = rw (get_d_tab f n (n - suc (suc k)) _ (omega arith))
-      go k h (no p) = rw (le_ltb (suc k) n (omega arith))
+      go k h (no p) = rw (le-ltb (suc k) n (omega arith))
 
   -- a trim after a reversal is a reversal after the trim from the other end
   pub trim_turn_tab : (f : ℕ → Vert A) (n i j : ℕ) → i < j → j < n

@@ -1,11 +1,11 @@
 -- Laws of `tab`, the list of f 0 to f (n - 1).
 use mathlib.Core.Path.{◌≡◌, refl, sym, ap, ap₂, ◌∙◌}
-use Prim.Native.Nat.{ℕ, zero, suc, ◌+◌, ◌*◌, ◌<◌, ◌≤◌, suc_le_suc}
-use native.Mathlib.Nat.{le_of_suc_le_suc, not_suc_le_zero, zero_lt_suc}
+use Prim.Native.Nat.{ℕ, zero, suc, ◌+◌, ◌*◌, ◌<◌, ◌≤◌, suc-le-suc}
+use native.Mathlib.Nat.{le_of_suc-le-suc, not-suc-le-zero, zero-lt-suc}
 use native.Mathlib.Omega.{arith}
 use mathlib.Core.List.{List, [], ◌∷◌, ◌++◌}
-use lib.ListN.{length, get_or, drop, length_append, length_drop}
-use lib.Seq.{sets, sets_eq, take_at, drop_at, drop_drop}
+use lib.ListN.{length, get_or, drop, length-append, length-drop}
+use lib.Seq.{sets, sets-eq, take_at, drop_at, drop-drop}
 use Rattle.lists.specs.Plain.{Vert, tab, flat, numbers}
 
 module _ {B : Type 0} where
@@ -16,14 +16,14 @@ module _ {B : Type 0} where
 
   pub get_d_tab : (f : ℕ → B) (n k : ℕ) (d : B) → k < n → get_or (tab f n) k d ≡ f k
   unfolding tab
-  get_d_tab f zero k d h = absurd (not_suc_le_zero h)
+  get_d_tab f zero k d h = absurd (not-suc-le-zero h)
   get_d_tab f (suc n) zero d h = refl
-  get_d_tab f (suc n) (suc k) d h = get_d_tab (λ i. f (suc i)) n k d (le_of_suc_le_suc h)
+  get_d_tab f (suc n) (suc k) d h = get_d_tab (λ i. f (suc i)) n k d (le_of_suc-le-suc h)
 
   pub tab_ext : (f g : ℕ → B) (n : ℕ) → ((k : ℕ) → k < n → f k ≡ g k) → tab f n ≡ tab g n
   unfolding tab
   tab_ext f g zero e = refl
-  tab_ext f g (suc n) e = λ i. e zero (zero_lt_suc n) i ∷ tab_ext (λ k. f (suc k)) (λ k. g (suc k)) n (λ k h. e (suc k) (suc_le_suc h)) i
+  tab_ext f g (suc n) e = λ i. e zero (zero-lt-suc n) i ∷ tab_ext (λ k. f (suc k)) (λ k. g (suc k)) n (λ k h. e (suc k) (suc-le-suc h)) i
 
   pub tab_suc : (f : ℕ → B) (n : ℕ) → tab f (suc n) ≡ tab f n ++ f n ∷ []
   unfolding tab
@@ -49,9 +49,9 @@ module _ {A : Type 0} where
       let p = flat (tab f k) in
       let l = p ++ drop (3 * k) out in
       let e : length p ≡ 3 * k = length_flat (tab f k) ∙ ap (λ (m : ℕ). 3 * m) (length_tab f k) in
-      let n : length l ≡ length out = length_append p (drop (3 * k) out) ∙ simp (e, length_drop) (omega arith) in
+      let n : length l ≡ length out = length-append p (drop (3 * k) out) ∙ simp (e, length-drop) (omega arith) in
       let e₂ : 3 * suc k ≡ 3 * k + 3 = omega arith in
-      sets_eq (numbers (f k)) l (3 * k) (omega arith)
+      sets-eq (numbers (f k)) l (3 * k) (omega arith)
       ∙ ap₂ (λ (a b : List A). a ++ numbers (f k) ++ b) (take_at p (drop (3 * k) out) (3 * k) e)
-      (sym (drop_drop 3 (3 * k) l) ∙ ap (drop 3) (drop_at p (drop (3 * k) out) (3 * k) e) ∙ drop_drop 3 (3 * k) out)
+      (sym (drop-drop 3 (3 * k) l) ∙ ap (drop 3) (drop_at p (drop (3 * k) out) (3 * k) e) ∙ drop-drop 3 (3 * k) out)
       ∙ rw (tab_suc, flat_append, e₂)

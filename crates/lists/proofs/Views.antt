@@ -1,10 +1,10 @@
 -- A view's lookup by position, as laws: the inverted list is the reversal of the forward list, and a part of a record lists that part.
 use mathlib.Core.Path.{◌≡◌, refl, sym, ap, ◌∙◌}
 use Prim.Native.Nat.{ℕ, suc, ◌+◌, ◌-◌, ◌%◌, ◌<◌, ◌≤◌}
-use native.Mathlib.Nat.{mod_add_mod, add_assoc}
+use native.Mathlib.Nat.{mod-add-mod, add_assoc}
 use native.Mathlib.Decide.{dec_lt}
 use native.Mathlib.Omega.{arith}
-use borrow.Author.Tests.{lt_ltb, le_ltb, eq_eqb, ne_eqb}
+use borrow.Author.Tests.{lt-ltb, le-ltb, eq-eqb, ne_eqb}
 use Rattle.lists.specs.Plain.{Vert, with_bulge, turn_at, trim_at}
 use Rattle.lists.specs.View.{View, forward, backward, part}
 
@@ -38,15 +38,15 @@ module _ {A : Type 0} (z : A) (src : ℕ → Vert A) (n : ℕ) (r : View A) wher
 
   pub at_inner : (k : ℕ) → 0 < k → k < r.offset → F k ≡ G k
   unfolding forward
-  at_inner k p q = simp (ne_eqb k 0 (omega arith), lt_ltb k r.offset q)
+  at_inner k p q = simp (ne_eqb k 0 (omega arith), lt-ltb k r.offset q)
 
   pub at_final : 0 < r.offset → F r.offset ≡ with_bulge (G r.offset) r.end_bulge
   unfolding forward
-  at_final p = simp (ne_eqb r.offset 0 (omega arith), le_ltb r.offset r.offset (omega arith), eq_eqb r.offset r.offset refl)
+  at_final p = simp (ne_eqb r.offset 0 (omega arith), le-ltb r.offset r.offset (omega arith), eq-eqb r.offset r.offset refl)
 
   pub at_past : F (r.offset + 1) ≡ record { x = r.end_x; y = r.end_y; bulge = z }
   unfolding forward
-  at_past = simp (ne_eqb (r.offset + 1) 0 (omega arith), le_ltb (r.offset + 1) r.offset (omega arith), ne_eqb (r.offset + 1) r.offset (omega arith))
+  at_past = simp (ne_eqb (r.offset + 1) 0 (omega arith), le-ltb (r.offset + 1) r.offset (omega arith), ne_eqb (r.offset + 1) r.offset (omega arith))
 
   -- the position of a vertex of the outline, whatever its bulge
   pub at_pos : (k : ℕ) (b : A) → 0 < k → k ≤ r.offset → with_bulge (F k) b ≡ with_bulge (G k) b
@@ -76,15 +76,15 @@ module _ {A : Type 0} (neg : A → A) (z : A) (src : ℕ → Vert A) (n : ℕ) (
 
   pub back_inner : (k : ℕ) → 0 < k → k < r.offset → backward neg z src n r k ≡ with_bulge (src ((((r.start + (r.offset - k)) % n) + 1) % n)) (neg (G z src n r (r.offset - k)).bulge)
   unfolding backward
-  back_inner k p q = simp (ne_eqb k 0 (omega arith), lt_ltb k r.offset q)
+  back_inner k p q = simp (ne_eqb k 0 (omega arith), lt-ltb k r.offset q)
 
   pub back_final : (k : ℕ) → 0 < k → k ≡ r.offset → backward neg z src n r k ≡ with_bulge (G z src n r (r.offset - k + 1)) (neg r.first.bulge)
   unfolding backward
-  back_final k p e = simp (ne_eqb k 0 (omega arith), le_ltb k r.offset (omega arith), eq_eqb k r.offset e)
+  back_final k p e = simp (ne_eqb k 0 (omega arith), le-ltb k r.offset (omega arith), eq-eqb k r.offset e)
 
   pub back_past : (k : ℕ) → r.offset < k → backward neg z src n r k ≡ with_bulge r.first z
   unfolding backward
-  back_past k p = simp (ne_eqb k 0 (omega arith), le_ltb k r.offset (omega arith), ne_eqb k r.offset (omega arith))
+  back_past k p = simp (ne_eqb k 0 (omega arith), le-ltb k r.offset (omega arith), ne_eqb k r.offset (omega arith))
 
   -- the inverted list is the reversal of the forward list
   module _ (even : r.offset ≡ 0 → r.first.bulge ≡ r.end_bulge) where
@@ -96,21 +96,21 @@ module _ {A : Type 0} (neg : A → A) (z : A) (src : ℕ → Vert A) (n : ℕ) (
         go (first e) =
             let e₁ : r.offset + 2 - 1 ≡ r.offset + 1 = omega arith in
             let e₂ : r.offset + 2 - 2 ≡ r.offset = omega arith in
-            simp (e, e₁, e₂, lt_ltb 1 (r.offset + 2) (omega arith), at_past z src n r, at_end_bulge z src n r even)
+            simp (e, e₁, e₂, lt-ltb 1 (r.offset + 2) (omega arith), at_past z src n r, at_end_bulge z src n r even)
         go (inner p q) =
             let e₁ : r.offset + 2 - suc k ≡ r.offset - k + 1 = omega arith in
             let e₂ : r.offset + 2 - suc (suc k) ≡ r.offset - k = omega arith in
-            simp (ne_eqb k 0 (omega arith), lt_ltb k r.offset q, e₁, e₂, lt_ltb (suc k) (r.offset + 2) (omega arith), at_inner z src n r (r.offset - k) (omega arith) (omega arith), mod_add_mod, add_assoc)
+            simp (ne_eqb k 0 (omega arith), lt-ltb k r.offset q, e₁, e₂, lt-ltb (suc k) (r.offset + 2) (omega arith), at_inner z src n r (r.offset - k) (omega arith) (omega arith), mod-add-mod, add_assoc)
             (sym (at_pos z src n r (r.offset - k + 1) _ (omega arith) (omega arith)))
         go (final p e) =
             let e₁ : r.offset + 2 - suc k ≡ 1 = omega arith in
             let e₂ : r.offset + 2 - suc (suc k) ≡ 0 = omega arith in
             let e₃ : r.offset - k + 1 ≡ 1 = omega arith in
-            simp (ne_eqb k 0 (omega arith), le_ltb k r.offset (omega arith), eq_eqb k r.offset e, e₁, e₂, e₃, lt_ltb (suc k) (r.offset + 2) (omega arith), at_first z src n r)
+            simp (ne_eqb k 0 (omega arith), le-ltb k r.offset (omega arith), eq-eqb k r.offset e, e₁, e₂, e₃, lt-ltb (suc k) (r.offset + 2) (omega arith), at_first z src n r)
             (sym (at_pos z src n r 1 _ (omega arith) (omega arith)))
         go (past e) =
             let e₁ : r.offset + 2 - suc k ≡ 0 = omega arith in
-            simp (ne_eqb k 0 (omega arith), le_ltb k r.offset (omega arith), ne_eqb k r.offset (omega arith), e₁, le_ltb (suc k) (r.offset + 2) (omega arith), at_first z src n r)
+            simp (ne_eqb k 0 (omega arith), le-ltb k r.offset (omega arith), ne_eqb k r.offset (omega arith), e₁, le-ltb (suc k) (r.offset + 2) (omega arith), at_first z src n r)
 
 module _ {A : Type 0} (z : A) (src : ℕ → Vert A) (n : ℕ) (r : View A) (a b : ℕ) (below : a < b) (within : b ≤ r.offset + 1) where
   abbrev r' : View A
@@ -124,14 +124,14 @@ module _ {A : Type 0} (z : A) (src : ℕ → Vert A) (n : ℕ) (r : View A) (a b
       go : Place (b - a - 1) k → forward z src n r' k ≡ trim_at z (forward z src n r) a b k
       go (first e) =
           let e₁ : a + k ≡ a = omega arith in
-          simp (e₁, lt_ltb k (b - a) (omega arith)) (rw e (at_first z src n r'))
+          simp (e₁, lt-ltb k (b - a) (omega arith)) (rw e (at_first z src n r'))
       go (inner p q) =
-          simp (lt_ltb k (b - a) (omega arith), at_inner z src n r (a + k) (omega arith) (omega arith))
-          (at_inner z src n r' k p q ∙ simp (mod_add_mod, add_assoc))
+          simp (lt-ltb k (b - a) (omega arith), at_inner z src n r (a + k) (omega arith) (omega arith))
+          (at_inner z src n r' k p q ∙ simp (mod-add-mod, add_assoc))
       go (final p e) =
           let e₁ : a + k ≡ b - 1 = omega arith in
           let e₂ : a + (b - a - 1) ≡ b - 1 = omega arith in
-          simp (e₁, lt_ltb k (b - a) (omega arith)) (ap (forward z src n r') e ∙ at_final z src n r' p ∙ simp (mod_add_mod, add_assoc, e₂) (sym (at_pos z src n r (b - 1) _ (omega arith) (omega arith))))
+          simp (e₁, lt-ltb k (b - a) (omega arith)) (ap (forward z src n r') e ∙ at_final z src n r' p ∙ simp (mod-add-mod, add_assoc, e₂) (sym (at_pos z src n r (b - 1) _ (omega arith) (omega arith))))
       go (past e) =
           let e₁ : a + k ≡ b = omega arith in
-          simp (e₁, le_ltb k (b - a) (omega arith)) (rw e (at_past z src n r'))
+          simp (e₁, le-ltb k (b - a) (omega arith)) (rw e (at_past z src n r'))

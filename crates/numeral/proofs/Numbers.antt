@@ -1,16 +1,16 @@
 -- A number's text by its parts, and what its number is: the nearest value (`number_is`), and no other (`only_number`).
 use mathlib.Core.Path.{◌≡◌, refl, sym, ap, ap₂, ◌∙◌, subst}
-use mathlib.Core.List.{List, [], ◌∷◌, ◌++◌, append_nil}
+use mathlib.Core.List.{List, [], ◌∷◌, ◌++◌, append-nil}
 use mathlib.Core.Bool.{Bool, true, false, ◌&&◌, true≢false}
 use Prim.Native.Nat.{ℕ, ◌+◌, ◌^◌, ◌≤◌, ◌<◌}
-use native.Mathlib.Nat.{le_trans, le_of_lt, lt_irrefl, lt_of_lt_of_le, lt_of_le_of_lt, pow_le_pow_right}
-use native.Mathlib.Numerals.{add_one}
+use native.Mathlib.Nat.{le_trans, le_of_lt, lt_irrefl, lt_of_lt_of_le, lt_of_le_of_lt, pow-le-pow_right}
+use native.Mathlib.Numerals.{add-one}
 use native.Mathlib.Omega.{arith}
-use lib.ListN.{length, take, drop, get_or, drop_of_length_le, length_append}
-use lib.Seq.{take_suc, append_snoc}
+use lib.ListN.{length, take, drop, get_or, drop_of_length-le, length-append}
+use lib.Seq.{take-suc, append_snoc}
 use lib.Dec.{T, leb, lit≤, lit<}
 use lib.Ieee.{Float, binary64, round, fits}
-use borrow.Author.Tests.{ne_eqb, eq_eqb, lt_leb, le_leb, leb_true}
+use borrow.Author.Tests.{ne_eqb, eq-eqb, lt-leb, le-leb, leb-true}
 use Rattle.real.specs.Refusal.{bad_text}
 use Rattle.real.specs.Reply.{Reply, refused, given, check}
 use Rattle.real.proofs.Replies.{same_given, check_passed, check_failed, and_both}
@@ -36,7 +36,7 @@ no_point b t d = (simp (ne_eqb b 46 d), simp (ne_eqb b 46 d))
 
 a_point : (b : ℕ) (t : List ℕ) → b ≡ 46 → (before_point (b ∷ t) ≡ []) × (after_point (b ∷ t) ≡ t)
 unfolding before_point after_point
-a_point b t e = (simp (eq_eqb b 46 e), simp (eq_eqb b 46 e))
+a_point b t e = (simp (eq-eqb b 46 e), simp (eq-eqb b 46 e))
 
 module _ (t : List ℕ) (i : ℕ) (u : Unpointed t i) where
   pub unpointed_more : i < length t → (get_or t i 0 ≡ 46 → ⊥) → Unpointed t (i + 1)
@@ -44,20 +44,20 @@ module _ (t : List ℕ) (i : ℕ) (u : Unpointed t i) where
       let n = no_point (get_or t i 0) (drop (i + 1) t) d in
       record {
         within = omega arith;
-        before = u.before ∙ ap (λ (l : List ℕ). take i t ++ l) (ap before_point (here t i h) ∙ n.0) ∙ sym (append_snoc (take i t) (get_or t i 0) (before_point (drop (i + 1) t))) ∙ ap (λ (l : List ℕ). l ++ before_point (drop (i + 1) t)) (sym (take_suc t i 0 h) ∙ ap (λ (m : ℕ). take m t) (sym (add_one i)));
+        before = u.before ∙ ap (λ (l : List ℕ). take i t ++ l) (ap before_point (here t i h) ∙ n.0) ∙ sym (append_snoc (take i t) (get_or t i 0) (before_point (drop (i + 1) t))) ∙ ap (λ (l : List ℕ). l ++ before_point (drop (i + 1) t)) (sym (take-suc t i 0 h) ∙ ap (λ (m : ℕ). take m t) (sym (add-one i)));
         after = u.after ∙ ap after_point (here t i h) ∙ n.1;
       }
 
   pub unpointed_at : i < length t → get_or t i 0 ≡ 46 → (i ≤ length t) × (take i t ≡ before_point t) × (drop (i + 1) t ≡ after_point t)
   unpointed_at h e =
       let n = a_point (get_or t i 0) (drop (i + 1) t) e in
-      (u.within, sym (u.before ∙ ap (λ (l : List ℕ). take i t ++ l) (ap before_point (here t i h) ∙ n.0) ∙ append_nil (take i t)), sym (u.after ∙ ap after_point (here t i h) ∙ n.1))
+      (u.within, sym (u.before ∙ ap (λ (l : List ℕ). take i t ++ l) (ap before_point (here t i h) ∙ n.0) ∙ append-nil (take i t)), sym (u.after ∙ ap after_point (here t i h) ∙ n.1))
 
   pub unpointed_end : length t ≤ i → (i ≤ length t) × (take i t ≡ before_point t) × (drop (i + 1) t ≡ after_point t)
   unfolding before_point after_point
   unpointed_end h =
-      let e : drop i t ≡ [] = drop_of_length_le t h in
-      (u.within, sym (u.before ∙ ap (λ (l : List ℕ). take i t ++ before_point l) e ∙ append_nil (take i t)), drop_of_length_le t {i = i + 1} (omega arith) ∙ sym (u.after ∙ ap after_point e))
+      let e : drop i t ≡ [] = drop_of_length-le t h in
+      (u.within, sym (u.before ∙ ap (λ (l : List ℕ). take i t ++ before_point l) e ∙ append-nil (take i t)), drop_of_length-le t {i = i + 1} (omega arith) ∙ sym (u.after ∙ ap after_point e))
 
 -- ---- the digits w and r before and after the point, 15 at most
 
@@ -86,7 +86,7 @@ module _ (w r : List ℕ) (few : length w + length r ≤ 15) where
         let f = front_read n read in
         let p = check_passed bad_text _ e in
         let v : value_from n r ≡ value_of (w ++ r) = ap (λ (x : ℕ). value_from x r) f.1 ∙ sym (value_append 0 w r) in
-        let l = value_under (w ++ r) 15 (subst (λ (x : ℕ). x ≤ 15) (sym (length_append w r)) few) (digits_append w r f.0 p.0) in
+        let l = value_under (w ++ r) 15 (subst (λ (x : ℕ). x ≤ 15) (sym (length-append w r)) few) (digits_append w r f.0 p.0) in
         let z : d ≡ value_of (w ++ r) = same_given p.1 ∙ ap kept v ∙ kept_under (value_of (w ++ r)) (lt_of_lt_of_le l (lit≤ tt)) in
         (p.0, z, subst (λ (x : ℕ). x < 10 ^ 15) (sym z) l)
 
@@ -99,8 +99,8 @@ module _ (w r : List ℕ) (few : length w + length r ≤ 15) where
 -- 10 ^ 15 and what is below it are whole numbers that an f64 holds
 pub power_small : (p k : ℕ) → p ≡ 10 ^ k → k ≤ 15 → (p < 2 ^ 53) × (0 < p)
 power_small p k e l = (
-  subst (λ (x : ℕ). x < 2 ^ 53) (sym e) (lt_of_le_of_lt (pow_le_pow_right (lit≤ tt) l) (lit< tt)),
-  subst (λ (x : ℕ). 0 < x) (sym e) (pow_le_pow_right {n = 10} (lit≤ tt) {i = 0} {j = k} (omega arith)),
+  subst (λ (x : ℕ). x < 2 ^ 53) (sym e) (lt_of_le_of_lt (pow-le-pow_right (lit≤ tt) l) (lit< tt)),
+  subst (λ (x : ℕ). 0 < x) (sym e) (pow-le-pow_right {n = 10} (lit≤ tt) {i = 0} {j = k} (omega arith)),
 )
 
 -- ---- a text without its sign
@@ -111,13 +111,13 @@ module _ (s : Bool) (u w r : List ℕ) (before : w ≡ before_point u) (after : 
   as_parts = sym (ap₂ (λ (w r : List ℕ). check (few_digits w r) bad_text (decimal_of s w r)) before after)
 
   pub too_few : length w + length r < 1 → refused bad_text ≡ unsigned_of s u
-  too_few h = sym (as_parts ∙ simp (lt_leb 1 (length w + length r) h))
+  too_few h = sym (as_parts ∙ simp (lt-leb 1 (length w + length r) h))
 
   pub too_many : 15 < length w + length r → refused bad_text ≡ unsigned_of s u
-  too_many h = sym (as_parts ∙ simp (le_leb 1 (length w + length r) (omega arith), lt_leb (length w + length r) 15 h))
+  too_many h = sym (as_parts ∙ simp (le-leb 1 (length w + length r) (omega arith), lt-leb (length w + length r) 15 h))
 
   pub enough : 1 ≤ length w + length r → length w + length r ≤ 15 → decimal_of s w r ≡ unsigned_of s u
-  enough h l = sym (as_parts ∙ simp (le_leb 1 (length w + length r) h, le_leb (length w + length r) 15 l))
+  enough h l = sym (as_parts ∙ simp (le-leb 1 (length w + length r) h, le-leb (length w + length r) 15 l))
 
 -- ---- the sign
 
@@ -163,8 +163,8 @@ fraction_cap t h =
     let r = places t in
     let p = and_both (few_digits w r) (all_digits w && all_digits r) h in
     let d = and_both (all_digits w) (all_digits r) p.1 in
-    let few : length w + length r ≤ 15 = leb_true (length w + length r) 15 (and_both (leb 1 (length w + length r)) (leb (length w + length r) 15) p.0).1 in
-    (le_of_lt (lt_of_lt_of_le (value_under (w ++ r) 15 (subst (λ (x : ℕ). x ≤ 15) (sym (length_append w r)) few) (digits_append w r d.0 d.1)) (lit≤ tt)), (power_small (10 ^ length r) (length r) refl (omega arith)).1)
+    let few : length w + length r ≤ 15 = leb-true (length w + length r) 15 (and_both (leb 1 (length w + length r)) (leb (length w + length r) 15) p.0).1 in
+    (le_of_lt (lt_of_lt_of_le (value_under (w ++ r) 15 (subst (λ (x : ℕ). x ≤ 15) (sym (length-append w r)) few) (digits_append w r d.0 d.1)) (lit≤ tt)), (power_small (10 ^ length r) (length r) refl (omega arith)).1)
 
 pub number_is : (t : List ℕ) → IsNumber t (number_of t)
 unfolding IsNumber number_of

@@ -3,21 +3,21 @@ use mathlib.Core.Path.{◌≡◌, refl, sym, ap, ◌∙◌, subst}
 use mathlib.Core.Logic.{◌⊎◌, inl, inr}
 use Prim.Native.Nat.{ℕ, zero, suc, ◌+◌, ◌-◌, ◌*◌, ◌/◌, ◌%◌, ◌^◌, ◌≤◌, ◌<◌, compare, Ordering}
 use mathlib.Core.Bool.{Bool, true, false, not, cond, true≢false}
-use native.Mathlib.Nat.{le_trans, le_of_eq, le_of_lt, le_antisymm, le_of_suc_le_suc, lt_of_lt_of_le, lt_of_le_of_lt, lt_of_not_le, not_le_of_lt, lt_irrefl, eq_or_lt_of_le, zero_lt_suc, mul_assoc, mul_one, mul_pos, mul_le_mul_right, div_add_mod', mod_lt, le_div_iff_mul_le, div_div_eq_div_mul, add_assoc, mul_lt_mul_of_pos_right, zero_mul, div_le_self, lt_suc_self, le_suc, lt_of_mul_lt_mul_right, le_of_mul_le_mul_right}
+use native.Mathlib.Nat.{le_trans, le_of_eq, le_of_lt, le_antisymm, le_of_suc-le-suc, lt_of_lt_of_le, lt_of_le_of_lt, lt_of_not-le, not-le_of_lt, lt_irrefl, eq-or-lt_of_le, zero-lt-suc, mul_assoc, mul-one, mul-pos, mul-le-mul_right, div-add-mod', mod-lt, le-div_iff_mul-le, div-div-eq-div-mul, add_assoc, mul-lt-mul_of_pos_right, zero-mul, div-le_self, lt-suc_self, le-suc, lt_of_mul-lt-mul_right, le_of_mul-le-mul_right}
 use native.Mathlib.Decide.{dec_le, ℕ_discrete}
 use native.Mathlib.Omega.{arith}
 use lib.IntN.{ℤ, pos}
 use lib.Dec.{T, ltb, lit<}
-use lib.Pow.{pow_add, pow_pos, pow_mono, pow_lt, shl_lt}
+use lib.Pow.{pow-add, pow_pos, pow_mono, pow-lt, shl_lt}
 use lib.Ieee.{Float, nan, inf, fin, Format, binary32, binary64, prec, emax, low, hid, top, up, down, div, of_int, size, nearest, odd, units, round, neg, fits, to_bits, of_bits}
-use lib.Ieee.Digits.{size_lt, size_le, size_reaches, back}
-use lib.Ieee.Fits.{down_pos, two, odd_fits, round_is, round_fits, nearest_le, kept_lt}
+use lib.Ieee.Digits.{size-lt, size-le, size_reaches, back}
+use lib.Ieee.Fits.{down_pos, two, odd-fits, round_is, round-fits, nearest-le, kept-lt}
 use lib.Ieee.Exact.{HasValue, units_val, odd_sign}
-use lib.Ieee.Bits.{of_bits_to_bits}
+use lib.Ieee.Bits.{of_bits-to_bits}
 use lib.Ieee.Back.{round_whole}
 use lib.Ieee.Scale.{round_same}
 use borrow.Author.Tests.{ne_eqb}
-use lib.Ieee.Nearest.{closest, nearest_ge}
+use lib.Ieee.Nearest.{closest, nearest-ge}
 use Rattle.real.specs.Root.{count}
 use Rattle.real.proofs.Rounding.{Cmp, cmp, count_is}
 use Rattle.real.proofs.Patterns.{pattern_of, pattern_is}
@@ -41,16 +41,16 @@ half_of w r u n Ordering.eq c l e = record { over = omega (arith, up); under = o
     even w = omega arith
 
     up : w * u ≤ (w + w % 2) * u
-    up = mul_le_mul_right u (omega arith)
+    up = mul-le-mul_right u (omega arith)
 
     down : (w + w % 2) * u ≤ w * u + u
-    down = le_trans (mul_le_mul_right u (omega arith)) (le_of_eq (one w u))
+    down = le_trans (mul-le-mul_right u (omega arith)) (le_of_eq (one w u))
       where
         one : (w u : ℕ) → (w + 1) * u ≡ w * u + u
         one w u = omega arith
 
 half : (n u : ℕ) → 0 < u → Half n u (closest n u)
-half n u U = half_of (n / u) (n % u) u n (compare (n % u * 2) u) (cmp (n % u * 2) u) (mod_lt n U) (div_add_mod' n u)
+half n u U = half_of (n / u) (n % u) u n (compare (n % u * 2) u) (cmp (n % u * 2) u) (mod-lt n U) (div-add-mod' n u)
 
 -- ---- a value y is farther than q * w, all in units, w being 2 ^ k; A, U and Y stand for q * w * den, w * den and y * den
 
@@ -74,8 +74,8 @@ pattern_all f q k m (inr l) = pattern_is f q k l m
 pattern_all f q k m (inl e) = elim (dec_le (hid f) q) [
   | yes l ↦ pattern_is f q k l m
   | no g ↦
-      let w : q * 2 ^ k ≡ q = ap (λ (x : ℕ). q * 2 ^ x) e ∙ mul_one q in
-      let z : size q - prec f ≡ 0 = none (size q) (prec f) (size_le q (prec f - 1) (lt_of_not_le g)) in
+      let w : q * 2 ^ k ≡ q = ap (λ (x : ℕ). q * 2 ^ x) e ∙ mul-one q in
+      let z : size q - prec f ≡ 0 = none (size q) (prec f) (size-le q (prec f - 1) (lt_of_not-le g)) in
       ap (pattern_of f) w ∙ ap (λ (x : ℕ). x * hid f + q / 2 ^ x) z ∙ least (hid f) q ∙ ap (λ (x : ℕ). x * hid f + q) (sym e)
 ]
   where
@@ -128,19 +128,19 @@ sides_whole : (n u q k y : ℕ) → k ≡ 0 → (y ≡ q * 2 ^ k → ⊥) → Si
 unfolding Sides
 sides_whole n u q k y e d =
     let w : 2 ^ k ≡ 1 = ap (λ (x : ℕ). 2 ^ x) e in
-    let a : q * 2 ^ k ≡ q = ap (λ (x : ℕ). q * x) w ∙ mul_one q in
-    elim (dec_le y q) [ yes l ↦ inr (inl (omega arith)) | no g ↦ let h = lt_of_not_le g in inl (omega arith) ]
+    let a : q * 2 ^ k ≡ q = ap (λ (x : ℕ). q * x) w ∙ mul-one q in
+    elim (dec_le y q) [ yes l ↦ inr (inl (omega arith)) | no g ↦ let h = lt_of_not-le g in inl (omega arith) ]
 
 module _ (f : Format) (n u q k y my jy : ℕ) (sh : Shape f y my jy) (lo : hid f ≤ q) (reach : hid f * u ≤ n) where
   over : q * 2 ^ k < y → q * 2 ^ k + 2 ^ k ≤ y
   over l = le_trans (le_of_eq (sym (next q (2 ^ k)))) (subst (λ (x : ℕ). suc q * 2 ^ k ≤ x) (sym sh.units) (next_above f my jy k q sh.digits lo (subst (λ (x : ℕ). q * 2 ^ k < x) sh.units l)))
 
 under : (f : Format) (n u q k y my jy : ℕ) → Shape f y my jy → hid f ≤ q → hid f * u ≤ n → y < q * 2 ^ k → (y + 2 ^ k ≤ q * 2 ^ k) ⊎ ((y < q * 2 ^ k) × (q * u ≤ n))
-under f n u zero k y my jy sh lo reach l = absurd (not_le_of_lt (pow_pos (prec f - 1)) lo)
-under f n u (suc q) k y my jy sh lo reach l = elim (eq_or_lt_of_le lo) [
+under f n u zero k y my jy sh lo reach l = absurd (not-le_of_lt (pow_pos (prec f - 1)) lo)
+under f n u (suc q) k y my jy sh lo reach l = elim (eq-or-lt_of_le lo) [
   | inl e ↦ inr (l, subst (λ (x : ℕ). x * u ≤ n) e reach)
   | inr g ↦
-      let b = subst (λ (x : ℕ). x ≤ q * 2 ^ k) (sym sh.units) (next_below f my jy k q sh.digits (le_of_suc_le_suc g) (subst (λ (x : ℕ). x < suc q * 2 ^ k) sh.units l)) in
+      let b = subst (λ (x : ℕ). x ≤ q * 2 ^ k) (sym sh.units) (next_below f my jy k q sh.digits (le_of_suc-le-suc g) (subst (λ (x : ℕ). x < suc q * 2 ^ k) sh.units l)) in
       let s = next q (2 ^ k) in
       inl (omega arith)
 ]
@@ -148,8 +148,8 @@ under f n u (suc q) k y my jy sh lo reach l = elim (eq_or_lt_of_le lo) [
 sides_full : (f : Format) (n u q k y my jy : ℕ) → Shape f y my jy → hid f ≤ q → hid f * u ≤ n → (y ≡ q * 2 ^ k → ⊥) → Sides n u q (2 ^ k) y
 unfolding Sides
 sides_full f n u q k y my jy sh lo reach d = elim (dec_le y (q * 2 ^ k)) [
-  | yes l ↦ elim (eq_or_lt_of_le l) [ inl e ↦ absurd (d e) | inr g ↦ inr (under f n u q k y my jy sh lo reach g) ]
-  | no g ↦ inl (over f n u q k y my jy sh lo reach (lt_of_not_le g))
+  | yes l ↦ elim (eq-or-lt_of_le l) [ inl e ↦ absurd (d e) | inr g ↦ inr (under f n u q k y my jy sh lo reach g) ]
+  | no g ↦ inl (over f n u q k y my jy sh lo reach (lt_of_not-le g))
 ]
 
 -- so it is no nearer, and as near only where q is even
@@ -161,14 +161,14 @@ farther n den q w y U h s =
     let b : 2 * (q * w * den) ≤ 2 * n + den * w = subst (λ (x : ℕ). 2 * x ≤ 2 * n + den * w) A h.under in
     elim s [
       | inl l ↦
-          let r = above_far n (q * w * den) (den * w) (y * den) U o b (le_trans (le_of_eq (spread (q * w) w den)) (mul_le_mul_right den l)) in
+          let r = above_far n (q * w * den) (den * w) (y * den) U o b (le_trans (le_of_eq (spread (q * w) w den)) (mul-le-mul_right den l)) in
           (r.0, λ e. h.tie_over (r.1 e ∙ ap (λ (x : ℕ). 2 * x + den * w) (sym A)))
       | inr t ↦ elim t [
         | inl l ↦
-            let r = below_far n (q * w * den) (den * w) (y * den) U o b (le_trans (le_of_eq (spread y w den)) (mul_le_mul_right den l)) in
+            let r = below_far n (q * w * den) (den * w) (y * den) U o b (le_trans (le_of_eq (spread y w den)) (mul-le-mul_right den l)) in
             (r.0, λ e. h.tie_under (ap (λ (x : ℕ). 2 * x) A ∙ r.1 e))
         | inr p ↦
-            let r = past_far n (q * w * den) (y * den) (le_trans (le_of_eq (sym A)) p.1) (mul_lt_mul_of_pos_right p.0 (first den w U)) in
+            let r = past_far n (q * w * den) (y * den) (le_trans (le_of_eq (sym A)) p.1) (mul-lt-mul_of_pos_right p.0 (first den w U)) in
             (r.0, λ e. absurd (r.1 e))
       ]
     ]
@@ -180,8 +180,8 @@ farther n den q w y U h s =
     spread a w den = omega arith
 
     first : (den w : ℕ) → 0 < den * w → 0 < den
-    first zero w h = absurd (lt_irrefl 0 (subst (λ (x : ℕ). 0 < x) (zero_mul w) h))
-    first (suc den) w h = zero_lt_suc den
+    first zero w h = absurd (lt_irrefl 0 (subst (λ (x : ℕ). 0 < x) (zero-mul w) h))
+    first (suc den) w h = zero-lt-suc den
 
 -- ---- the theorem
 
@@ -196,25 +196,25 @@ module _ (f : Format) (s : Bool) (num den : ℕ) (D : 0 < den) (small : num ≤ 
   q = closest n (den * 2 ^ k)
 
   U : 0 < den * 2 ^ k
-  U = mul_pos D (pow_pos k)
+  U = mul-pos D (pow_pos k)
 
   part : n / (den * 2 ^ k) < 2 ^ prec f
-  part = subst (λ (x : ℕ). x < 2 ^ prec f) (div_div_eq_div_mul n den (2 ^ k)) (kept_lt (prec f) (n / den))
+  part = subst (λ (x : ℕ). x < 2 ^ prec f) (div-div-eq-div-mul n den (2 ^ k)) (kept-lt (prec f) (n / den))
 
   q_le : q ≤ 2 ^ prec f
-  q_le = le_trans (nearest_le (n / (den * 2 ^ k)) (compare (n % (den * 2 ^ k) * 2) (den * 2 ^ k))) part
+  q_le = le_trans (nearest-le (n / (den * 2 ^ k)) (compare (n % (den * 2 ^ k) * 2) (den * 2 ^ k))) part
 
   k_le : k ≤ suc (low f)
   k_le =
-      let a : n ≤ 2 ^ (prec f + low f) = le_trans (mul_le_mul_right (2 ^ low f) small) (le_of_eq (sym (pow_add 2 (prec f) (low f)))) in
-      let b : n / den < 2 ^ suc (prec f + low f) = lt_of_le_of_lt (le_trans (div_le_self n den) a) (pow_lt (lt_suc_self (prec f + low f))) in
-      cut (size (n / den)) (prec f) (low f) (size_le (n / den) (suc (prec f + low f)) b)
+      let a : n ≤ 2 ^ (prec f + low f) = le_trans (mul-le-mul_right (2 ^ low f) small) (le_of_eq (sym (pow-add 2 (prec f) (low f)))) in
+      let b : n / den < 2 ^ suc (prec f + low f) = lt_of_le_of_lt (le_trans (div-le_self n den) a) (pow-lt (lt-suc_self (prec f + low f))) in
+      cut (size (n / den)) (prec f) (low f) (size-le (n / den) (suc (prec f + low f)) b)
     where
       cut : (z p l : ℕ) → z ≤ suc (p + l) → z - p ≤ suc l
       cut z p l h = omega arith
 
   finite : q * 2 ^ k < 2 ^ (low f + suc (emax f))
-  finite = lt_of_le_of_lt (mul_le_mul_right (2 ^ k) q_le) (lt_of_le_of_lt (le_of_eq (sym (pow_add 2 (prec f) k))) (pow_lt (shift (prec f) k (suc (low f)) (low f + suc (emax f)) k_le (room f))))
+  finite = lt_of_le_of_lt (mul-le-mul_right (2 ^ k) q_le) (lt_of_le_of_lt (le_of_eq (sym (pow-add 2 (prec f) k))) (pow-lt (shift (prec f) k (suc (low f)) (low f + suc (emax f)) k_le (room f))))
     where
       shift : (p k l m : ℕ) → k ≤ l → p + l < m → p + k < m
       shift p k l m a b = omega arith
@@ -231,10 +231,10 @@ module _ (f : Format) (s : Bool) (num den : ℕ) (D : 0 < den) (small : num ≤ 
   full = elim (dec_le (size (n / den)) (prec f)) [
     | yes l ↦ let e : k ≡ 0 = none (size (n / den)) (prec f) l in (inl e, inl e)
     | no g ↦
-        let z : prec f - 1 + k < size (n / den) = more (size (n / den)) (prec f) (two f) (lt_of_not_le g) in
-        let a : hid f * 2 ^ k ≤ n / den = le_trans (le_of_eq (sym (pow_add 2 (prec f - 1) k))) (size_reaches (n / den) (prec f - 1 + k) z) in
-        let b : hid f ≤ n / (den * 2 ^ k) = subst (λ (x : ℕ). hid f ≤ x) (div_div_eq_div_mul n den (2 ^ k)) ((le_div_iff_mul_le (pow_pos k)).1 a) in
-        (inr (le_trans b (nearest_ge (n / (den * 2 ^ k)) (compare (n % (den * 2 ^ k) * 2) (den * 2 ^ k)))), inr ((le_div_iff_mul_le U).0 b))
+        let z : prec f - 1 + k < size (n / den) = more (size (n / den)) (prec f) (two f) (lt_of_not-le g) in
+        let a : hid f * 2 ^ k ≤ n / den = le_trans (le_of_eq (sym (pow-add 2 (prec f - 1) k))) (size_reaches (n / den) (prec f - 1 + k) z) in
+        let b : hid f ≤ n / (den * 2 ^ k) = subst (λ (x : ℕ). hid f ≤ x) (div-div-eq-div-mul n den (2 ^ k)) ((le-div_iff_mul-le (pow_pos k)).1 a) in
+        (inr (le_trans b (nearest-ge (n / (den * 2 ^ k)) (compare (n % (den * 2 ^ k) * 2) (den * 2 ^ k)))), inr ((le-div_iff_mul-le U).0 b))
   ]
     where
       none : (z p : ℕ) → z ≤ p → z - p ≡ 0
@@ -270,7 +270,7 @@ module _ (f : Format) (s : Bool) (num den : ℕ) (D : 0 < den) (small : num ≤ 
   pub round_closest : Closest f s num den (round f s num den)
   round_closest =
       record {
-        held = round_fits f s num den;
+        held = round-fits f s num den;
         sign = signed;
         near = λ y t. le_trans (le_of_eq away_is) (no_nearer y t (ℕ_discrete (count f y) (q * 2 ^ k)));
         even = λ y t d e. bits_parity f s (round f s num den) q k signed units_are q_le full.0 ∙ (other y t (λ g. d (g ∙ sym units_are))).1 (e ∙ away_is);
@@ -285,9 +285,9 @@ module _ (f : Format) (s : Bool) (num den : ℕ) (D : 0 < den) (small : num ≤ 
 -- a value by its sign and its size
 same_value : (f : Format) (s : Bool) (x y : Float) → T (fits f x) → T (fits f y) → Signed s x → Signed s y → count f x ≡ count f y → x ≡ y
 same_value f s x y t u a b e =
-    sym (of_bits_to_bits f x t)
+    sym (of_bits-to_bits f x t)
     ∙ ap (of_bits f) (bits_by_count f s x a ∙ ap (λ (c : ℕ). cond s (top f) 0 + (size c - prec f) * hid f + c / 2 ^ (size c - prec f)) e ∙ sym (bits_by_count f s y b))
-    ∙ of_bits_to_bits f y u
+    ∙ of_bits-to_bits f y u
 
 -- a value is q * 2 ^ k, with all the format's digits or with k = 0
 record Lined (f : Format) (c q k : ℕ) : Type 0 where
@@ -300,20 +300,20 @@ unfolding Full
 lined f c m j sh =
     let k = size c - prec f in
     let u = sh.units in
-    let kl : k ≤ j = spare (size c) (prec f) j (size_le c (prec f + j) (subst (λ (x : ℕ). x < 2 ^ (prec f + j)) (sym u) (shl_lt (prec f) j sh.digits))) in
+    let kl : k ≤ j = spare (size c) (prec f) j (size-le c (prec f + j) (subst (λ (x : ℕ). x < 2 ^ (prec f + j)) (sym u) (shl_lt (prec f) j sh.digits))) in
     let q = m * 2 ^ (j - k) in
-    let e : c ≡ q * 2 ^ k = u ∙ ap (λ (x : ℕ). m * x) (ap (λ (x : ℕ). 2 ^ x) (sym (back j k kl)) ∙ pow_add 2 (j - k) k) ∙ sym (mul_assoc m (2 ^ (j - k)) (2 ^ k)) in
-    let l : q * 2 ^ k < 2 ^ prec f * 2 ^ k = subst (λ (x : ℕ). x < 2 ^ prec f * 2 ^ k) e (lt_of_lt_of_le (size_lt c) (le_trans (pow_mono (cover (size c) (prec f))) (le_of_eq (pow_add 2 (prec f) k)))) in (
+    let e : c ≡ q * 2 ^ k = u ∙ ap (λ (x : ℕ). m * x) (ap (λ (x : ℕ). 2 ^ x) (sym (back j k kl)) ∙ pow-add 2 (j - k) k) ∙ sym (mul_assoc m (2 ^ (j - k)) (2 ^ k)) in
+    let l : q * 2 ^ k < 2 ^ prec f * 2 ^ k = subst (λ (x : ℕ). x < 2 ^ prec f * 2 ^ k) e (lt_of_lt_of_le (size-lt c) (le_trans (pow_mono (cover (size c) (prec f))) (le_of_eq (pow-add 2 (prec f) k)))) in (
       q,
       k,
       record {
         is = e;
-        most = lt_of_mul_lt_mul_right (2 ^ k) l;
+        most = lt_of_mul-lt-mul_right (2 ^ k) l;
         full = elim (dec_le (size c) (prec f)) [
           | yes h ↦ inl (none (size c) (prec f) h)
           | no g ↦
-              let a : hid f * 2 ^ k ≤ q * 2 ^ k = subst (λ (x : ℕ). hid f * 2 ^ k ≤ x) e (le_trans (le_of_eq (sym (pow_add 2 (prec f - 1) k))) (size_reaches c (prec f - 1 + k) (more (size c) (prec f) (two f) (lt_of_not_le g)))) in
-              inr (le_of_mul_le_mul_right a (pow_pos k))
+              let a : hid f * 2 ^ k ≤ q * 2 ^ k = subst (λ (x : ℕ). hid f * 2 ^ k ≤ x) e (le_trans (le_of_eq (sym (pow-add 2 (prec f - 1) k))) (size_reaches c (prec f - 1 + k) (more (size c) (prec f) (two f) (lt_of_not-le g)))) in
+              inr (le_of_mul-le-mul_right a (pow_pos k))
         ];
       },
     )
@@ -335,19 +335,19 @@ above : (f : Format) (q k y my jy : ℕ) → Full f q k → Shape f y my jy → 
 unfolding Full
 above f q k y my jy (inr lo) sh l = subst (λ (x : ℕ). suc q * 2 ^ k ≤ x) (sym sh.units) (next_above f my jy k q sh.digits lo (subst (λ (x : ℕ). q * 2 ^ k < x) sh.units l))
 above f q k y my jy (inl e) sh l =
-    let w : (a : ℕ) → a * 2 ^ k ≡ a = λ a. ap (λ (x : ℕ). a * 2 ^ x) e ∙ mul_one a in
+    let w : (a : ℕ) → a * 2 ^ k ≡ a = λ a. ap (λ (x : ℕ). a * 2 ^ x) e ∙ mul-one a in
     le_trans (le_of_eq (w (suc q))) (lt_of_le_of_lt (le_of_eq (sym (w q))) l)
 
 wider : (f : Format) (q k : ℕ) → Full f q k → Full f (suc q) k
 unfolding Full
 wider f q k (inl e) = inl e
-wider f q k (inr l) = inr (le_trans l (le_suc q))
+wider f q k (inr l) = inr (le_trans l (le-suc q))
 
 -- with b strictly between a and c, and a and c as far from n, b is nearer
 between : (n a b c d : ℕ) → 0 < d → a < b → b < c → gap n (a * d) ≡ gap n (c * d) → gap n (b * d) < gap n (a * d)
 between n a b c d D l m e =
-    let x : a * d < b * d = mul_lt_mul_of_pos_right l D in
-    let y : b * d < c * d = mul_lt_mul_of_pos_right m D in
+    let x : a * d < b * d = mul-lt-mul_of_pos_right l D in
+    let y : b * d < c * d = mul-lt-mul_of_pos_right m D in
     omega arith
 
 odd_next : (q : ℕ) → q % 2 ≡ 0 → suc q % 2 ≡ 0 → ⊥
@@ -366,21 +366,21 @@ module _ (f : Format) (s : Bool) (num den : ℕ) (D : 0 < den) where
       let e : away f num den r ≡ away f num den r' = le_antisymm (a.near r' b.held) (b.near r a.held) in
       let up : suc q * 2 ^ k ≤ count f r' = above f q k (count f r') sh'.0 sh'.1 L.full sh'.2 (subst (λ (x : ℕ). x < count f r') L.is l) in
       let even : q % 2 ≡ 0 = sym (bits_parity f s r q k a.sign L.is (le_of_lt L.most) L.full) ∙ a.even r' b.held (λ g. lt_irrefl (count f r) (subst (λ (x : ℕ). count f r < x) g l)) (sym e) in
-      elim (eq_or_lt_of_le up) [
+      elim (eq-or-lt_of_le up) [
         | inl g ↦ odd_next q even (sym (bits_parity f s r' (suc q) k b.sign (sym g) L.most (wider f q k L.full)) ∙ b.even r a.held (λ h. lt_irrefl (count f r) (subst (λ (x : ℕ). count f r < x) (sym h) l)) e)
         | inr g ↦
             let fine : suc q * 2 ^ k < 2 ^ (low f + suc (emax f)) = lt_of_lt_of_le g (le_of_lt sh'.2.finite) in
             let y = odd (suc (prec f)) false (suc q) k (low f) in
-            let t : T (fits f y) = odd_fits f (suc (prec f)) false (suc q) k (lt_of_le_of_lt L.most (pow_lt (lt_suc_self (prec f)))) L.most fine in
+            let t : T (fits f y) = odd-fits f (suc (prec f)) false (suc q) k (lt_of_le_of_lt L.most (pow-lt (lt-suc_self (prec f)))) L.most fine in
             let c : count f y ≡ suc q * 2 ^ k = count_is f y false (suc q * 2 ^ k) (odd_sign (suc (prec f)) false (suc q) k (low f)) in
-            let m : count f r < count f y = lt_of_le_of_lt (le_of_eq L.is) (lt_of_lt_of_le (mul_lt_mul_of_pos_right (lt_suc_self q) (pow_pos k)) (le_of_eq (sym c))) in
-            not_le_of_lt (between (num * 2 ^ low f) (count f r) (count f y) (count f r') den D m (subst (λ (x : ℕ). x < count f r') (sym c) g) e) (a.near y t)
+            let m : count f r < count f y = lt_of_le_of_lt (le_of_eq L.is) (lt_of_lt_of_le (mul-lt-mul_of_pos_right (lt-suc_self q) (pow_pos k)) (le_of_eq (sym c))) in
+            not-le_of_lt (between (num * 2 ^ low f) (count f r) (count f y) (count f r') den D m (subst (λ (x : ℕ). x < count f r') (sym c) g) e) (a.near y t)
       ]
 
   pub only_closest : (r r' : Float) → Closest f s num den r → Closest f s num den r' → r ≡ r'
   only_closest r r' a b =
       same_value f s r r' a.held b.held a.sign b.sign
-      (le_antisymm (le_of_suc_le_suc (lt_of_not_le (λ g. no_less r' r b a g))) (le_of_suc_le_suc (lt_of_not_le (λ g. no_less r r' a b g))))
+      (le_antisymm (le_of_suc-le-suc (lt_of_not-le (λ g. no_less r' r b a g))) (le_of_suc-le-suc (lt_of_not-le (λ g. no_less r r' a b g))))
 
 -- ---- a minus sign passes through `round`
 
@@ -417,14 +417,14 @@ div_at f (fin s m e) (inf t) a b B v w = absurd w
 div_at f (fin true m e) (fin t n d) a b B v w = absurd (true≢false v.0)
 div_at f (fin false m e) (fin true n d) a b B v w = absurd (true≢false w.0)
 div_at f (fin false m e) (fin false n d) a b B v w =
-    let p : m * up e ≡ a * down e = sym (mul_one (m * up e)) ∙ v.1 in
-    let r : n * up d ≡ b * down d = sym (mul_one (n * up d)) ∙ w.1 in
+    let p : m * up e ≡ a * down e = sym (mul-one (m * up e)) ∙ v.1 in
+    let r : n * up d ≡ b * down d = sym (mul-one (n * up d)) ∙ w.1 in
     div_is f m e n d (some n d b (down d) B (down_pos d) r)
-    ∙ round_same f false (m * up e * down d) (n * up d * down e) a b (mul_pos (subst (λ (x : ℕ). 0 < x) (sym r) (mul_pos B (down_pos d))) (down_pos e)) B
+    ∙ round_same f false (m * up e * down d) (n * up d * down e) a b (mul-pos (subst (λ (x : ℕ). 0 < x) (sym r) (mul-pos B (down_pos d))) (down_pos e)) B
     (ap (λ (x : ℕ). x * down d * b) p ∙ turn a (down e) (down d) b ∙ ap (λ (x : ℕ). a * (x * down e)) (sym r))
   where
     some : (n : ℕ) (d : ℤ) (b z : ℕ) → 0 < b → 0 < z → n * up d ≡ b * z → n ≡ 0 → ⊥
-    some n d b z B Z r e = lt_irrefl 0 (subst (λ (x : ℕ). 0 < x) (sym r ∙ ap (λ (x : ℕ). x * up d) e ∙ zero_mul (up d)) (mul_pos B Z))
+    some n d b z B Z r e = lt_irrefl 0 (subst (λ (x : ℕ). 0 < x) (sym r ∙ ap (λ (x : ℕ). x * up d) e ∙ zero-mul (up d)) (mul-pos B Z))
 
     turn : (a x y b : ℕ) → a * x * y * b ≡ a * (b * y * x)
     turn a x y b = omega arith

@@ -3,13 +3,13 @@ use mathlib.Core.Path.{◌≡◌, refl, sym, ap, ◌∙◌, subst}
 use mathlib.Core.List.{List, [], ◌∷◌, ◌++◌}
 use mathlib.Core.Bool.{Bool, true, false, ◌&&◌}
 use Prim.Native.Nat.{ℕ, suc, ◌+◌, ◌-◌, ◌*◌, ◌%◌, ◌^◌, ◌≤◌, ◌<◌}
-use native.Mathlib.Nat.{le_trans, le_refl, le_of_eq, lt_of_lt_of_le, pow_succ', pow_le_pow_right, add_zero, lt_irrefl, lt_of_not_le}
+use native.Mathlib.Nat.{le_trans, le_refl, le_of_eq, lt_of_lt_of_le, pow-succ', pow-le-pow_right, add-zero, lt_irrefl, lt_of_not-le}
 use native.Mathlib.Decide.{dec_le}
-use native.Mathlib.Numerals.{add_one}
+use native.Mathlib.Numerals.{add-one}
 use native.Mathlib.Omega.{arith}
 use lib.ListN.{length, drop, get_or}
 use lib.Dec.{leb, lit≤, lit<}
-use borrow.Author.Tests.{leb_true, lt_ltb, le_ltb, lt_leb, le_leb}
+use borrow.Author.Tests.{leb-true, lt-ltb, le-ltb, lt-leb, le-leb}
 use Rattle.real.specs.Refusal.{bad_text}
 use Rattle.real.specs.Reply.{refused, given, check}
 use Rattle.real.proofs.Replies.{same_given, check_passed, check_failed, and_both}
@@ -20,7 +20,7 @@ use Rattle.numeral.proofs.Text.{here, past}
 
 pub digit_bounds : (b : ℕ) → is_digit_of b ≡ true → (48 ≤ b) × (b ≤ 57)
 unfolding is_digit_of
-digit_bounds b d = let e = and_both (leb 48 b) (leb b 57) d in (leb_true 48 b e.0, leb_true b 57 e.1)
+digit_bounds b d = let e = and_both (leb 48 b) (leb b 57) d in (leb-true 48 b e.0, leb-true b 57 e.1)
 
 pub digits_append : (s t : List ℕ) → all_digits s ≡ true → all_digits t ≡ true → all_digits (s ++ t) ≡ true
 unfolding all_digits
@@ -48,7 +48,7 @@ value_parity n m (b ∷ t) h = value_parity (10 * n + (b - 48)) (10 * m + (b - 4
 -- digits stand for a number that has no more of them
 value_lt : (n k : ℕ) (t : List ℕ) → n < 10 ^ k → all_digits t ≡ true → value_from n t < 10 ^ (k + length t)
 unfolding value_from all_digits
-value_lt n k [] h d = subst (λ (x : ℕ). n < 10 ^ x) (sym (add_zero k)) h
+value_lt n k [] h d = subst (λ (x : ℕ). n < 10 ^ x) (sym (add-zero k)) h
 value_lt n k (b ∷ t) h d =
     let e = and_both (is_digit_of b) (all_digits t) d in
     let g = digit_bounds b e.0 in
@@ -61,30 +61,30 @@ value_lt n k (b ∷ t) h d =
     more v d p h l = omega arith
 
     ten_more : (v d k : ℕ) → v < 10 ^ k → d ≤ 9 → 10 * v + d < 10 ^ (k + 1)
-    ten_more v d k h l = lt_of_lt_of_le (more v d (10 ^ k) h l) (le_of_eq (sym (ap (λ (n : ℕ). 10 ^ n) (add_one k) ∙ pow_succ' 10 k)))
+    ten_more v d k h l = lt_of_lt_of_le (more v d (10 ^ k) h l) (le_of_eq (sym (ap (λ (n : ℕ). 10 ^ n) (add-one k) ∙ pow-succ' 10 k)))
 
 pub value_under : (t : List ℕ) (k : ℕ) → length t ≤ k → all_digits t ≡ true → value_of t < 10 ^ k
-value_under t k h d = lt_of_lt_of_le (value_lt 0 0 t (lit< tt) d) (pow_le_pow_right (lit≤ tt) (omega arith))
+value_under t k h d = lt_of_lt_of_le (value_lt 0 0 t (lit< tt) d) (pow-le-pow_right (lit≤ tt) (omega arith))
 
 -- ---- what is kept of a number
 
 pub kept_under : (n : ℕ) → n < cap → kept n ≡ n
 unfolding kept
-kept_under n h = simp (lt_ltb n cap h)
+kept_under n h = simp (lt-ltb n cap h)
 
 kept_past : (n : ℕ) → cap ≤ n → kept n ≡ cap + n % 2
 unfolding kept
-kept_past n h = simp (le_ltb n cap h)
+kept_past n h = simp (le-ltb n cap h)
 
 kept_same : (n : ℕ) → n ≤ cap + 1 → kept n ≡ n
-kept_same n h = elim (dec_le cap n) [ yes l ↦ kept_past n l ∙ omega arith | no g ↦ kept_under n (lt_of_not_le g) ]
+kept_same n h = elim (dec_le cap n) [ yes l ↦ kept_past n l ∙ omega arith | no g ↦ kept_under n (lt_of_not-le g) ]
 
 pub kept_parity : (n : ℕ) → kept n % 2 ≡ n % 2
-kept_parity n = elim (dec_le cap n) [ yes l ↦ ap (λ (x : ℕ). x % 2) (kept_past n l) ∙ omega arith | no g ↦ ap (λ (x : ℕ). x % 2) (kept_under n (lt_of_not_le g)) ]
+kept_parity n = elim (dec_le cap n) [ yes l ↦ ap (λ (x : ℕ). x % 2) (kept_past n l) ∙ omega arith | no g ↦ ap (λ (x : ℕ). x % 2) (kept_under n (lt_of_not-le g)) ]
 
 -- it is below the cap where the number is, and then it is the number
 pub kept_only : (c n : ℕ) → n < cap → kept c ≡ n → c ≡ n
-kept_only c n h e = elim (dec_le cap c) [ yes l ↦ absurd (lt_irrefl n (let f = kept_past c l in omega arith)) | no g ↦ sym (kept_under c (lt_of_not_le g)) ∙ e ]
+kept_only c n h e = elim (dec_le cap c) [ yes l ↦ absurd (lt_irrefl n (let f = kept_past c l in omega arith)) | no g ↦ sym (kept_under c (lt_of_not-le g)) ∙ e ]
 
 -- digits written on after it give what they would after the number itself
 kept_on : (n : ℕ) (t : List ℕ) → kept (value_from n t) ≡ kept (value_from (kept n) t)
@@ -95,7 +95,7 @@ kept_on n t = elim (dec_le cap n) [
       kept_past (value_from n t) (le_trans l (value_ge n t))
       ∙ ap (λ (x : ℕ). cap + x) (value_parity n c t (omega arith))
       ∙ sym (ap (λ (x : ℕ). kept (value_from x t)) (kept_past n l) ∙ kept_past (value_from c t) (le_trans g (value_ge c t)))
-  | no g ↦ ap (λ (x : ℕ). kept (value_from x t)) (sym (kept_under n (lt_of_not_le g)))
+  | no g ↦ ap (λ (x : ℕ). kept (value_from x t)) (sym (kept_under n (lt_of_not-le g)))
 ]
 
 pub written_small : (v d r : ℕ) → v < 1000000000000000000 → d ≤ 9 → r ≡ 10 * v + d → (r ≡ kept (10 * v + d)) × (r ≤ cap + 1)
@@ -149,11 +149,11 @@ whole_digits t h = (and_both (leb 1 (length t)) (all_digits t) h).1
 
 pub whole_none : (t : List ℕ) → length t < 1 → refused bad_text ≡ whole_of t
 unfolding whole_of is_whole
-whole_none t h = simp (lt_leb 1 (length t) h)
+whole_none t h = simp (lt-leb 1 (length t) h)
 
 pub whole_some : (t : List ℕ) → 1 ≤ length t → digits_of 0 t ≡ whole_of t
 unfolding whole_of is_whole digits_of
-whole_some t h = simp (le_leb 1 (length t) h)
+whole_some t h = simp (le-leb 1 (length t) h)
 
 -- what an answer shows
 pub whole_read : (t : List ℕ) (n : ℕ) → given n ≡ whole_of t → (is_whole t ≡ true) × (n ≡ kept (value_of t))

@@ -3,13 +3,13 @@ use mathlib.Core.Path.{◌≡◌, refl, sym, ap, ap₂, subst, ◌∙◌}
 use mathlib.Core.Bool.{Bool, true, false}
 use mathlib.Core.List.{List, [], ◌∷◌, ◌++◌}
 use Prim.Native.Nat.{ℕ, zero, suc, ◌+◌, ◌*◌, ◌/◌, ◌%◌, ◌≤◌, ◌<◌}
-use native.Mathlib.Nat.{not_suc_le_zero, le_of_suc_le_suc}
+use native.Mathlib.Nat.{not-suc-le-zero, le_of_suc-le-suc}
 use native.Mathlib.Omega.{arith}
 use lib.ListN.{length, get_or}
 use lib.Seq.{ext_get_or}
 use lib.Dec.{eqb, leb, ltb}
 use lib.Ieee.{Float, nan}
-use borrow.Author.Tests.{le_leb, leb_true, eqb_true, eq_eqb}
+use borrow.Author.Tests.{le-leb, leb-true, eqb-true, eq-eqb}
 use Rattle.real.proofs.Replies.{and_both}
 use Rattle.real.specs.Reply.{given}
 use Rattle.plane.specs.Grade.{double}
@@ -38,11 +38,11 @@ use Rattle.outline_sheet.proofs.Written.{header_length, sheet_length}
 -- number i of some that are f64
 number_there : (l : List Float) (i : ℕ) → Every Held l → i < length l → float_at (number_bytes l) (8 * i) ≡ get_or l i nan
 unfolding number_bytes Every
-number_there [] i h n = absurd (not_suc_le_zero n)
+number_there [] i h n = absurd (not-suc-le-zero n)
 number_there (x ∷ l) zero h n = float_first x (number_bytes l) h.0
 number_there (x ∷ l) (suc i) h n =
     let e : 8 * suc i ≡ length (float_bytes x) + 8 * i = omega (arith, float_length x) in
-    ap (float_at (float_bytes x ++ number_bytes l)) e ∙ float_behind (float_bytes x) (number_bytes l) (8 * i) ∙ number_there l i h.1 (le_of_suc_le_suc n)
+    ap (float_at (float_bytes x ++ number_bytes l)) e ∙ float_behind (float_bytes x) (number_bytes l) (8 * i) ∙ number_there l i h.1 (le_of_suc-le-suc n)
 
 module _ (s : List Float) (closed : Bool) (sound : SoundOutline s) where
   abbrev v : ℕ
@@ -56,7 +56,7 @@ module _ (s : List Float) (closed : Bool) (sound : SoundOutline s) where
   unfolding whole_outline
   threes =
       let w = and_both (eqb (length s % 3) 0) (leb v most_vertices) sound.whole in
-      (omega (arith, eqb_true (length s % 3) 0 w.0), leb_true v most_vertices w.1)
+      (omega (arith, eqb-true (length s % 3) 0 w.0), leb-true v most_vertices w.1)
 
   number_in : (i : ℕ) → i < length s → float_at b (header_size + 8 * i) ≡ get_or s i nan
   unfolding sheet_bytes
@@ -92,7 +92,7 @@ module _ (s : List Float) (closed : Bool) (sound : SoundOutline s) where
   header_ok =
       let n : length b ≡ header_size + vertex_size * v + 64 * 0 = sheet_length s closed ∙ omega (arith, threes.0) in
       ap (λ (h : Header). header_under most_vertices h (length b)) header_there
-      ∙ simp (known closed, le_leb v most_vertices threes.1, eq_eqb (header_size + vertex_size * v) (header_size + vertex_size * v) refl, eq_eqb (length b) (header_size + vertex_size * v + 64 * 0) n)
+      ∙ simp (known closed, le-leb v most_vertices threes.1, eq-eqb (header_size + vertex_size * v) (header_size + vertex_size * v) refl, eq-eqb (length b) (header_size + vertex_size * v + 64 * 0) n)
     where
       known : (c : Bool) → ltb (flags_of c) 4 ≡ true
       known true = refl

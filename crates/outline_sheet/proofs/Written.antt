@@ -1,12 +1,12 @@
 -- A sheet as it is written, number after number, and how many bytes it has.
 use mathlib.Core.Path.{◌≡◌, refl, sym, ap, ◌∙◌}
 use mathlib.Core.Bool.{Bool}
-use mathlib.Core.List.{List, [], ◌∷◌, ◌++◌, append_assoc, append_nil}
+use mathlib.Core.List.{List, [], ◌∷◌, ◌++◌, append_assoc, append-nil}
 use Prim.Native.Nat.{ℕ, suc, ◌+◌, ◌*◌, ◌≤◌, ◌<◌}
-use native.Mathlib.Numerals.{add_one}
+use native.Mathlib.Numerals.{add-one}
 use native.Mathlib.Omega.{arith}
-use lib.ListN.{length, take, get_or, length_append}
-use lib.Seq.{take_suc, take_all}
+use lib.ListN.{length, take, get_or, length-append}
+use lib.Seq.{take-suc, take_all}
 use lib.Ieee.{Float, nan}
 use Rattle.view.specs.Outline.{count_of}
 use Rattle.record.specs.Bytes.{bytes4, float_bytes}
@@ -24,11 +24,11 @@ header_length v closed = refl
 pub numbers_length : (l : List Float) → length (number_bytes l) ≡ 8 * length l
 unfolding number_bytes
 numbers_length [] = refl
-numbers_length (x ∷ l) = length_append (float_bytes x) (number_bytes l) ∙ omega (arith, float_length x, numbers_length l)
+numbers_length (x ∷ l) = length-append (float_bytes x) (number_bytes l) ∙ omega (arith, float_length x, numbers_length l)
 
 pub sheet_length : (s : List Float) (closed : Bool) → length (sheet_bytes s closed) ≡ sheet_size s
 unfolding sheet_bytes
-sheet_length s closed = length_append (header_bytes (count_of s) closed) (number_bytes s) ∙ omega (arith, header_length (count_of s) closed, numbers_length s)
+sheet_length s closed = length-append (header_bytes (count_of s) closed) (number_bytes s) ∙ omega (arith, header_length (count_of s) closed, numbers_length s)
 
 -- ---- the loop: after k turns the first k numbers stand there
 
@@ -41,9 +41,9 @@ one_more : (l : List Float) (k : ℕ) → k < length l → number_bytes (take k 
 unfolding number_bytes
 one_more l k h =
     sym
-    (ap number_bytes (ap (λ (n : ℕ). take n l) (add_one k) ∙ take_suc l k nan h)
+    (ap number_bytes (ap (λ (n : ℕ). take n l) (add-one k) ∙ take-suc l k nan h)
     ∙ numbers_append (take k l) (get_or l k nan ∷ [])
-    ∙ ap (λ (t : List ℕ). number_bytes (take k l) ++ t) (append_nil (float_bytes (get_or l k nan))))
+    ∙ ap (λ (t : List ℕ). number_bytes (take k l) ++ t) (append-nil (float_bytes (get_or l k nan))))
 
 pub record Writing (l : List Float) (before : List ℕ) (at k e : ℕ) (out : List ℕ) : Type 0 where
   pub few : k ≤ length l

@@ -2,13 +2,13 @@
 use mathlib.Core.Path.{◌≡◌, refl, sym, subst}
 use mathlib.Core.Bool.{Bool, true, false, not, ◌||◌, false≢true}
 use Prim.Native.Nat.{ℕ, ◌*◌, ◌<◌, ◌≤◌}
-use native.Mathlib.Nat.{not_le_of_lt}
+use native.Mathlib.Nat.{not-le_of_lt}
 use lib.IntN.{ℤ}
 use lib.Dec.{T, ltb, ltb→lt}
 use lib.Ieee.{Float, nan, inf, fin, up, down, of_bits, sub, le, lt, eq}
 use lib.Ieee.Fits.{down_pos}
 use lib.Ieee.Positive.{positive, between, le→cross, through}
-use borrow.Author.Tests.{ltb_false}
+use borrow.Author.Tests.{ltb-false}
 use Rattle.real.specs.Root.{abs_of}
 use Rattle.real.proofs.Replies.{and_both}
 use Rattle.plane.specs.Grade.{double}
@@ -30,7 +30,7 @@ above_zero limit h =
 -- fractions: a / p < b / q ≤ w / r
 fractions : (a b w p q r : ℕ) → 0 < r → a * q < b * p → b * r ≤ w * q → (t : Bool) → ltb (a * r) (w * p) ≡ t → t ≡ true
 fractions a b w p q r R h k true e = refl
-fractions a b w p q r R h k false e = absurd (not_le_of_lt h (through b w a q r p R k (ltb_false _ _ e)))
+fractions a b w p q r R h k false e = absurd (not-le_of_lt h (through b w a q r p R k (ltb-false _ _ e)))
 
 -- a magnitude below a value above zero is below every larger one
 below_both : (n l : ℕ) (d c : ℤ) (x : Float) → T (positive (fin false n d)) → T (positive (fin false l c)) → lt (abs_of x) (fin false n d) ≡ true → le (fin false n d) (fin false l c) ≡ true → lt (abs_of x) (fin false l c) ≡ true

@@ -36,10 +36,10 @@ module _ (g : Grade) where
   -- "Line closest point uses the two end tests seen in seg_distance_is_greater_than, and between them is the start plus the chord scaled by
   -- projection over squared chord length."
   abbrev pub line_nearest_by : Vector2 → Vector2 → Vector2 → Float → Float → Vector2
-  line_nearest_by start end chord chord_sq projection =
+  line_nearest_by start end chord chordSq projection =
       cond (lt projection fuzz) start
-      (cond (lt chord_sq (projection ⊕ fuzz)) end
-      (vadd_of g start (scale_of g chord (projection ⊘ chord_sq))))
+      (cond (lt chordSq (projection ⊕ fuzz)) end
+      (vadd_of g start (scale_of g chord (projection ⊘ chordSq))))
 
   abbrev pub line_nearest : Vector2 → Vector2 → Vector2 → Vector2
   line_nearest start end point = let chord = vsub_of g end start in line_nearest_by start end chord (length_sq_of g chord) (dot_of g (vsub_of g point start) chord)

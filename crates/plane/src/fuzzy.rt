@@ -6,7 +6,7 @@ ghost use Rattle.plane.specs.Vec.{near_of};
 use real::magnitude;
 
 // The tolerance of a fuzzy test that is handed none.
-pub const FUZZ: f64 = 1e_8;
+pub const FUZZ: f64 = 1e-8;
 
 pub fn fuzzy_eq_eps(a: f64, b: f64, eps: f64) -> bool
     ensures { result ≡ near_of double a b eps }

@@ -1,7 +1,7 @@
 -- The root along the chord between two roots of a table, of i * 4 * d and (i + 1) * 4 * d: it is right or one too small.
 use mathlib.Core.Path.{◌≡◌, sym, ap, ◌∙◌, subst}
 use Prim.Native.Nat.{ℕ, suc, ◌+◌, ◌-◌, ◌*◌, ◌/◌, ◌%◌, ◌^◌, ◌≤◌, ◌<◌}
-use native.Mathlib.Nat.{add_le_add, le_of_suc_le_suc, le_of_lt, le_trans, le_of_eq, lt_of_not_le, le_dest, mul_le_mul, mul_le_mul_left, mul_le_mul_right}
+use native.Mathlib.Nat.{add-le-add, le_of_suc-le-suc, le_of_lt, le_trans, le_of_eq, lt_of_not-le, le_dest, mul-le-mul, mul-le-mul_left, mul-le-mul_right}
 use native.Mathlib.Decide.{dec_le}
 use native.Mathlib.Omega.{arith}
 use Rattle.real.specs.Whole.{Root}
@@ -29,13 +29,13 @@ spread a e x y = omega arith
 
 below : (i a e x y : ℕ) → a * a ≤ i * (4 * (x + y)) → (a + e) * (a + e) ≤ suc i * (4 * (x + y)) → height a e x y * height a e x y ≤ 4 * ((x + y) * (x + y)) * (i * (x + y) + y)
 below i a e x y h k =
-    let r : (x + y) * (a * a * x + (a + e) * (a + e) * y) ≤ (x + y) * (i * (4 * (x + y)) * x + suc i * (4 * (x + y)) * y) = mul_le_mul_left (x + y) (add_le_add (mul_le_mul_right x h) (mul_le_mul_right y k)) in
+    let r : (x + y) * (a * a * x + (a + e) * (a + e) * y) ≤ (x + y) * (i * (4 * (x + y)) * x + suc i * (4 * (x + y)) * y) = mul-le-mul_left (x + y) (add-le-add (mul-le-mul_right x h) (mul-le-mul_right y k)) in
     let s = spread a e x y in
     omega arith
 
 over : (i a e x y : ℕ) → i * (4 * (x + y)) ≤ a * a + 2 * a → suc i * (4 * (x + y)) ≤ (a + e) * (a + e) + 2 * (a + e) → 4 * ((x + y) * (x + y)) * (i * (x + y) + y) ≤ height a e x y * height a e x y + e * e * (x * y) + 2 * ((x + y) * height a e x y)
 over i a e x y h k =
-    let r : (x + y) * (i * (4 * (x + y)) * x + suc i * (4 * (x + y)) * y) ≤ (x + y) * ((a * a + 2 * a) * x + ((a + e) * (a + e) + 2 * (a + e)) * y) = mul_le_mul_left (x + y) (add_le_add (mul_le_mul_right x h) (mul_le_mul_right y k)) in
+    let r : (x + y) * (i * (4 * (x + y)) * x + suc i * (4 * (x + y)) * y) ≤ (x + y) * ((a * a + 2 * a) * x + ((a + e) * (a + e) + 2 * (a + e)) * y) = mul-le-mul_left (x + y) (add-le-add (mul-le-mul_right x h) (mul-le-mul_right y k)) in
     le_trans (le_of_eq left) (le_trans r (le_of_eq (right ∙ ap (λ (v : ℕ). v + 2 * ((x + y) * height a e x y)) (spread a e x y))))
   where
     left : 4 * ((x + y) * (x + y)) * (i * (x + y) + y) ≡ (x + y) * (i * (4 * (x + y)) * x + suc i * (4 * (x + y)) * y)
@@ -46,9 +46,9 @@ over i a e x y h k =
 
 above : (i a e x y : ℕ) → i * (4 * (x + y)) ≤ a * a + 2 * a → suc i * (4 * (x + y)) ≤ (a + e) * (a + e) + 2 * (a + e) → e ≤ 2 ^ 8 → 2 ^ 14 ≤ a → 4 * ((x + y) * (x + y)) * (i * (x + y) + y) ≤ (height a e x y + 2 * (x + y)) * (height a e x y + 2 * (x + y))
 above i a e x y h k l b =
-    let w : e * e * (x * y) ≤ 2 ^ 8 * 2 ^ 8 * (x * y) = mul_le_mul_right (x * y) (mul_le_mul l l) in
-    let u : 2 ^ 14 * (x + y) ≤ height a e x y = le_trans (mul_le_mul_right (x + y) b) more in
-    le_trans (over i a e x y h k) (sums (height a e x y) (x + y) (e * e * (x * y)) (x * y) w (mean x y) (mul_le_mul_right (x + y) u))
+    let w : e * e * (x * y) ≤ 2 ^ 8 * 2 ^ 8 * (x * y) = mul-le-mul_right (x * y) (mul-le-mul l l) in
+    let u : 2 ^ 14 * (x + y) ≤ height a e x y = le_trans (mul-le-mul_right (x + y) b) more in
+    le_trans (over i a e x y h k) (sums (height a e x y) (x + y) (e * e * (x * y)) (x * y) w (mean x y) (mul-le-mul_right (x + y) u))
   where
     more : a * (x + y) ≤ a * x + (a + e) * y
     more = omega arith
@@ -67,16 +67,16 @@ high_at n c h = let s = c / 2 ^ 22 in let q : (c + 2 ^ 22) * (c + 2 ^ 22) < (s +
 
 -- two entries that follow one another: a, and b that is not below it
 rises : (i a b : ℕ) → Floor (i * 2 ^ 23) a → Floor (suc i * 2 ^ 23) b → a ≤ b
-rises i a b f g = le_of_suc_le_suc (sq_lt_back a (suc b) (let h = f.low in let k = g.high in omega arith))
+rises i a b f g = le_of_suc-le-suc (sq_lt_back a (suc b) (let h = f.low in let k = g.high in omega arith))
 
 large : (i a : ℕ) → 32 ≤ i → Floor (i * 2 ^ 23) a → 2 ^ 14 ≤ a
-large i a l f = le_of_suc_le_suc (sq_lt_back (2 ^ 14) (suc a) (let h = f.high in omega arith))
+large i a l f = le_of_suc-le-suc (sq_lt_back (2 ^ 14) (suc a) (let h = f.high in omega arith))
 
 small : (i a : ℕ) → i ≤ 128 → Floor (i * 2 ^ 23) a → a ≤ 2 ^ 15
-small i a l f = le_of_suc_le_suc (sq_lt_back a (suc (2 ^ 15)) (let h = f.low in omega arith))
+small i a l f = le_of_suc-le-suc (sq_lt_back a (suc (2 ^ 15)) (let h = f.low in omega arith))
 
 close : (i a e : ℕ) → 2 ^ 14 ≤ a → Floor (i * 2 ^ 23) a → Floor (suc i * 2 ^ 23) (a + e) → e ≤ 2 ^ 8
-close i a e l f g = le_of_suc_le_suc (lt_of_not_le (λ (k : suc (2 ^ 8) ≤ e). no f.high g.low (mul_le_mul_left a k) (mul_le_mul k k)))
+close i a e l f g = le_of_suc-le-suc (lt_of_not-le (λ (k : suc (2 ^ 8) ≤ e). no f.high g.low (mul-le-mul_left a k) (mul-le-mul k k)))
   where
     no : i * 2 ^ 23 < suc a * suc a → (a + e) * (a + e) ≤ suc i * 2 ^ 23 → a * suc (2 ^ 8) ≤ a * e → suc (2 ^ 8) * suc (2 ^ 8) ≤ e * e → ⊥
     no p q u v = omega arith
@@ -102,8 +102,8 @@ at i y a e lo hi h f g =
     let l : c * c ≤ 4 * ((x + y) * (x + y)) * (i * (x + y) + y) = below i a e x y (rw d fl) (rw d gl) in
     let u : 4 * ((x + y) * (x + y)) * (i * (x + y) + y) ≤ (c + 2 * (x + y)) * (c + 2 * (x + y)) = above i a e x y (rw d (omega arith)) (rw d (omega arith)) (close i a e big f g) big in
     record {
-      left = mul_le_mul (small i a (le_of_lt hi) f) x_le;
-      right = mul_le_mul (small (suc i) (a + e) hi g) (le_of_lt h);
+      left = mul-le-mul (small i a (le_of_lt hi) f) x_le;
+      right = mul-le-mul (small (suc i) (a + e) hi g) (le_of_lt h);
       low = low_at (i * 2 ^ 21 + y) c (rw d at l);
       high = high_at (i * 2 ^ 21 + y) c (rw d at u);
     }

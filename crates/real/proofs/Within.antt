@@ -4,7 +4,7 @@ use mathlib.Core.Bool.{Bool, true, false, not, ◌&&◌, ◌||◌}
 use Prim.Native.Nat.{ℕ, zero, suc, ◌+◌, ◌*◌, ◌<◌}
 use native.Mathlib.Omega.{arith}
 use lib.Dec.{ltb, eqb}
-use borrow.Author.Tests.{ltb_true, ltb_false, lt_ltb, le_ltb, eq_eqb, ne_eqb}
+use borrow.Author.Tests.{ltb-true, ltb-false, lt-ltb, le-ltb, eq-eqb, ne_eqb}
 use lib.Ieee.{Float, nan, inf, fin, up, down, below, level, neg, le}
 use Rattle.real.specs.Root.{abs_of}
 
@@ -19,10 +19,10 @@ Within s t p q = most false p t q ≡ most (not t) q s p && most s p t q
 -- what the tests say where a is the smaller
 module _ (a b : ℕ) (h : a < b) where
   less : ltb a b ≡ true
-  less = lt_ltb a b h
+  less = lt-ltb a b h
 
   not_less : ltb b a ≡ false
-  not_less = le_ltb b a (omega arith)
+  not_less = le-ltb b a (omega arith)
 
   differ : eqb a b ≡ false
   differ = ne_eqb a b (λ e. omega arith)
@@ -31,10 +31,10 @@ module _ (a b : ℕ) (h : a < b) where
   differ' = ne_eqb b a (λ e. omega arith)
 
   some : ltb 0 (a + b) ≡ true
-  some = lt_ltb 0 (a + b) (omega arith)
+  some = lt-ltb 0 (a + b) (omega arith)
 
   some' : ltb 0 (b + a) ≡ true
-  some' = lt_ltb 0 (b + a) (omega arith)
+  some' = lt-ltb 0 (b + a) (omega arith)
 
 inside : (s t : Bool) (p q : ℕ) → p < q → Within s t p q
 inside false false p q h = simp (less p q h, some' p q h)
@@ -53,20 +53,20 @@ at_bound false false zero = refl
 at_bound true false zero = refl
 at_bound false true zero = refl
 at_bound true true zero = refl
-at_bound false false (suc k) = let p = suc k in simp (le_ltb p p (omega arith), eq_eqb p p refl, lt_ltb 0 (p + p) (omega arith))
-at_bound true false (suc k) = let p = suc k in simp (le_ltb p p (omega arith), eq_eqb p p refl, lt_ltb 0 (p + p) (omega arith))
-at_bound false true (suc k) = let p = suc k in simp (le_ltb p p (omega arith), eq_eqb p p refl, ne_eqb p 0 (λ e. omega arith))
-at_bound true true (suc k) = let p = suc k in simp (eq_eqb p p refl, ne_eqb p 0 (λ e. omega arith))
+at_bound false false (suc k) = let p = suc k in simp (le-ltb p p (omega arith), eq-eqb p p refl, lt-ltb 0 (p + p) (omega arith))
+at_bound true false (suc k) = let p = suc k in simp (le-ltb p p (omega arith), eq-eqb p p refl, lt-ltb 0 (p + p) (omega arith))
+at_bound false true (suc k) = let p = suc k in simp (le-ltb p p (omega arith), eq-eqb p p refl, ne_eqb p 0 (λ e. omega arith))
+at_bound true true (suc k) = let p = suc k in simp (eq-eqb p p refl, ne_eqb p 0 (λ e. omega arith))
 
 within : (s t : Bool) (p q : ℕ) → Within s t p q
 within s t p q = go (ltb p q) (ltb q p) refl refl
   where
     go : (a b : Bool) → ltb p q ≡ a → ltb q p ≡ b → Within s t p q
-    go true b e f = inside s t p q (ltb_true p q e)
-    go false true e f = outside s t p q (ltb_true q p f)
+    go true b e f = inside s t p q (ltb-true p q e)
+    go false true e f = outside s t p q (ltb-true q p f)
     go false false e f =
-        let h = ltb_false p q e in
-        let k = ltb_false q p f in
+        let h = ltb-false p q e in
+        let k = ltb-false q p f in
         subst (Within s t p) (let same : p ≡ q = omega arith in same) (at_bound s t p)
 
 law : (x e : Float) → le (abs_of x) e ≡ le (neg e) x && le x e

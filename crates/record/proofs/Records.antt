@@ -3,14 +3,14 @@ use mathlib.Core.Path.{◌≡◌, refl, sym, ap, ap₂, subst, ◌∙◌}
 use mathlib.Core.Bool.{Bool, true, false, not}
 use mathlib.Core.List.{List, [], ◌∷◌, ◌++◌}
 use Prim.Native.Nat.{ℕ, zero, suc, ◌+◌, ◌*◌, ◌/◌, ◌%◌, ◌^◌, ◌≤◌, ◌<◌}
-use native.Mathlib.Nat.{add_assoc, div_div_eq_div_mul, mod_eq_of_lt}
+use native.Mathlib.Nat.{add_assoc, div-div-eq-div-mul, mod-eq_of_lt}
 use native.Mathlib.Omega.{arith}
 use lib.ListN.{length, get_or, take, drop}
-use lib.Seq.{ext_get_or, take_at, get_or_append_add}
+use lib.Seq.{ext_get_or, take_at, get_or-append-add}
 use lib.Dec.{T, ltb, leb, eqb}
 use lib.Ieee.{Float, binary64, fits, is_nan, of_bits, to_bits}
-use lib.Ieee.Bits.{of_bits_to_bits, to_bits_of_bits, to_bits_lt}
-use borrow.Author.Tests.{ltb_true, lt_ltb, leb_true, le_leb, eqb_true, eq_eqb}
+use lib.Ieee.Bits.{of_bits-to_bits, to_bits-of_bits, to_bits-lt}
+use borrow.Author.Tests.{ltb-true, lt-ltb, leb-true, le-leb, eqb-true, eq-eqb}
 use Rattle.real.specs.Refusal.{bad_index, bad_offset, lacks_room, bad_sheet, bad_record}
 use Rattle.real.specs.Reply.{Reply, given}
 use Rattle.lists.specs.Plain.{tab}
@@ -34,9 +34,9 @@ pub join4 : (n : ℕ) → n < 4294967296 → n % 256 + 256 * (n / 256 % 256) + 6
 join4 n h =
     line n (n / 256) (n / 65536) (n / 16777216) (n % 256) (n / 256 % 256) (n / 65536 % 256) (n / 16777216 % 256)
     (digit n)
-    (ap (λ (z : ℕ). n / 256 % 256 + 256 * z) (sym (div_div_eq_div_mul n 256 256)) ∙ digit (n / 256))
-    (ap (λ (z : ℕ). n / 65536 % 256 + 256 * z) (sym (div_div_eq_div_mul n 65536 256)) ∙ digit (n / 65536))
-    (mod_eq_of_lt (omega arith))
+    (ap (λ (z : ℕ). n / 256 % 256 + 256 * z) (sym (div-div-eq-div-mul n 256 256)) ∙ digit (n / 256))
+    (ap (λ (z : ℕ). n / 65536 % 256 + 256 * z) (sym (div-div-eq-div-mul n 65536 256)) ∙ digit (n / 65536))
+    (mod-eq_of_lt (omega arith))
 
 low : (n : ℕ) → n % 4294967296 < 4294967296
 low n = omega arith
@@ -52,8 +52,8 @@ float_back : (x : Float) → T (fits binary64 x) → let n = to_bits binary64 x 
     of_bits binary64 (a % 256 + 256 * (a / 256 % 256) + 65536 * (a / 65536 % 256 + 256 * (a / 16777216 % 256)) + 4294967296 * (b % 256 + 256 * (b / 256 % 256) + 65536 * (b / 65536 % 256 + 256 * (b / 16777216 % 256)))) ≡ x
 float_back x t =
     let n = to_bits binary64 x in
-    ap (of_bits binary64) (ap₂ (λ (p q : ℕ). p + 4294967296 * q) (join4 (n % 4294967296) (low n)) (join4 (n / 4294967296) (high n (to_bits_lt binary64 x t))) ∙ halves n)
-    ∙ of_bits_to_bits binary64 x t
+    ap (of_bits binary64) (ap₂ (λ (p q : ℕ). p + 4294967296 * q) (join4 (n % 4294967296) (low n)) (join4 (n / 4294967296) (high n (to_bits-lt binary64 x t))) ∙ halves n)
+    ∙ of_bits-to_bits binary64 x t
 
 pub float_length : (x : Float) → length (float_bytes x) ≡ 8
 unfolding float_bytes bytes8 bytes4
@@ -66,7 +66,7 @@ float_first x l t = float_back x t
 
 pub float_behind : (a b : List ℕ) (i : ℕ) → float_at (a ++ b) (length a + i) ≡ float_at b i
 unfolding float_at le64 le32 le16
-float_behind a b i = simp (add_assoc, get_or_append_add a b)
+float_behind a b i = simp (add_assoc, get_or-append-add a b)
 
 turn : (t : Bool) → let n = direction_of t in eqb (n % 256 + 256 * (n / 256 % 256) + 65536 * (n / 65536 % 256 + 256 * (n / 16777216 % 256))) 1 ≡ t
 turn true = refl
@@ -89,18 +89,18 @@ module _ (d : PlineViewData) (m : ℕ) where
       let offset = check_given (ltb d.end_index_offset word_limit) bad_offset _ e in
       let start = check_given (ltb d.start_index word_limit) bad_index _ offset.1 in
       let room = check_given (leb record_size m) lacks_room _ start.1 in
-      record { start = ltb_true _ _ start.0; offset = ltb_true _ _ offset.0; room = leb_true _ _ room.0; count = sym (same_given room.1) }
+      record { start = ltb-true _ _ start.0; offset = ltb-true _ _ offset.0; room = leb-true _ _ room.0; count = sym (same_given room.1) }
 
   pub takes : {n : ℕ} → Taken d m n → record_to d m ≡ given n
   unfolding record_to
-  takes t = simp (lt_ltb _ _ t.offset, lt_ltb _ _ t.start, le_leb _ _ t.room) (ap given (sym t.count))
+  takes t = simp (lt-ltb _ _ t.offset, lt-ltb _ _ t.start, le-leb _ _ t.room) (ap given (sym t.count))
 
 pub read : (b : List ℕ) (d : PlineViewData) → record_from b ≡ given d → (length b ≡ record_size) × (fields_ok b ≡ true) × (record_value b ≡ d)
 unfolding record_from
 read b d e =
     let size = check_given (eqb (length b) record_size) bad_sheet _ e in
     let form = check_given (fields_ok b) bad_record _ size.1 in
-    (eqb_true _ _ size.0, form.0, same_given form.1)
+    (eqb-true _ _ size.0, form.0, same_given form.1)
 
 -- what a buffer holds after a record is written
 buffer_given : (d : PlineViewData) (before : List ℕ) {n : ℕ} → record_to d (length before) ≡ given n → record_buffer d before ≡ record_bytes d ++ drop n before
@@ -200,12 +200,12 @@ module _ (b : List ℕ) (p : Plain b) where
   eight_back : (i : ℕ) → is_nan (float_at b i) ≡ false → float_bytes (float_at b i) ≡ bytes4 (le32 b i) ++ bytes4 (le32 b (i + 4))
   unfolding float_bytes float_at le64
   eight_back i n =
-      ap bytes8 (to_bits_of_bits binary64 (le64 b i) (le64_lt i) (subst (λ (t : Bool). T (not t)) (sym n) tt)) ∙ split (le32 b i) (le32 b (i + 4)) (le32_lt b p.bytes i)
+      ap bytes8 (to_bits-of_bits binary64 (le64 b i) (le64_lt i) (subst (λ (t : Bool). T (not t)) (sym n) tt)) ∙ split (le32 b i) (le32 b (i + 4)) (le32_lt b p.bytes i)
 
   record_back : length b ≡ record_size → fields_ok b ≡ true → record_bytes (record_value b) ≡ b
   unfolding fields_ok record_bytes place_bytes end_bytes vertex_bytes point_bytes tab
   record_back n ok =
-      let way : direction_of (eqb (le32 b 56) 1) ≡ le32 b 56 = one_bit (le32 b 56) (leb_true _ _ ok) in
+      let way : direction_of (eqb (le32 b 56) 1) ≡ le32 b 56 = one_bit (le32 b 56) (leb-true _ _ ok) in
       let whole : record_bytes (record_value b) ≡ tab at 64 =
       simp (
         eight_back 8 (p.floats 0 (omega arith)),
@@ -238,8 +238,8 @@ module _ (b : List ℕ) (p : Plain b) where
   pub round_trip : length b ≡ record_size → le32 b direction_at ≤ 1 → (record_from b ≡ given (record_value b)) × (record_bytes (record_value b) ≡ b)
   unfolding record_from fields_ok
   round_trip n way =
-      let ok : leb (le32 b direction_at) 1 ≡ true = le_leb _ _ way in
-      (simp (eq_eqb (length b) record_size n, ok), record_back n ok)
+      let ok : leb (le32 b direction_at) 1 ≡ true = le-leb _ _ way in
+      (simp (eq-eqb (length b) record_size n, ok), record_back n ok)
 
   -- bytes that are read as a record are that record's bytes, and where there is room they are what writing it leaves in the buffer
   pub written_from : (d : PlineViewData) → record_from b ≡ given d → record_bytes d ≡ b

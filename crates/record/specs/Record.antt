@@ -9,9 +9,9 @@ use Rattle.view.specs.declared.view_data.PlineViewData.{PlineViewData}
 use Rattle.record.specs.Bytes.{le32, float_at, vertex_from, point_from, bytes4, float_bytes}
 use Rattle.record.specs.Layout.{start_at, offset_at, first_at, end_bulge_at, end_at, direction_at, cut_number_at, record_size, word_limit}
 use Rattle.record.specs.declared.record.RecordAnswer.{RecordAnswer}
-use Rattle.record.specs.declared.record.RecordAnswer.TheVariants as record_case
+use Rattle.record.specs.declared.record.RecordAnswer.TheVariants as record-case
 use Rattle.record.specs.declared.record.BytesAnswer.{BytesAnswer}
-use Rattle.record.specs.declared.record.BytesAnswer.TheVariants as bytes_case
+use Rattle.record.specs.declared.record.BytesAnswer.TheVariants as bytes-case
 
 -- ---- read
 
@@ -32,8 +32,8 @@ record_value b =
     }
 
 abbrev pub record_reply : RecordAnswer → Reply PlineViewData
-record_reply (record_case.Given d) = given d
-record_reply (record_case.Refused n) = refused n
+record_reply (record-case.Given d) = given d
+record_reply (record-case.Refused n) = refused n
 
 -- the record that bytes alone are: refused 11 for another length, then 12
 unfoldable pub record_from : List ℕ → Reply PlineViewData
@@ -62,8 +62,8 @@ record_bytes d =
     ++ point_bytes d.end_point ++ end_bytes d.inverted_direction d.cut_number
 
 abbrev pub bytes_reply : BytesAnswer → Reply ℕ
-bytes_reply (bytes_case.Given n) = given n
-bytes_reply (bytes_case.Refused n) = refused n
+bytes_reply (bytes-case.Given n) = given n
+bytes_reply (bytes-case.Refused n) = refused n
 
 -- into a lent buffer of m bytes: refused 5 or 4 for an offset or a start that is no u32, 8 for under 64 bytes, else the count
 unfoldable pub record_to : PlineViewData → ℕ → Reply ℕ

@@ -31,8 +31,8 @@ module _ (w : Way) (g : Grade) where
 
   -- `radius_to_radial_length`
   unfoldable pub radial_scale_by : Float → Float → Float → Step Float
-  radial_scale_by b chord_sq radial_sq = do
-    ratio ← root format (chord_sq ⊘ radial_sq)
+  radial_scale_by b chordSq radialSq = do
+    ratio ← root format (chordSq ⊘ radialSq)
     done (ratio ⊗ (one ⊕ b ⊗ b) ⊗ abs_of (inv_four_bulge_of g b))
 
   unfoldable pub radial_by : PlineVertex → PlineVertex → Vector2 → Vector2 → Step Vector2

@@ -24,20 +24,20 @@ module _ (g : Grade) where
       let chord = vsub_of g end start in
       let offset = vsub_of g p start in
       let projection = dot_of g offset chord in
-      let chord_sq = length_sq_of g chord in
+      let chordSq = length_sq_of g chord in
       let cross = perp_dot_of g offset chord in
       cond (lt projection fuzz) (lt d2 (length_sq_of g offset))
-      (cond (lt chord_sq (projection ⊕ fuzz)) (lt d2 (length_sq_of g (vsub_of g p end)))
-      (lt (d2 ⊗ chord_sq) (cross ⊗ cross)))
+      (cond (lt chordSq (projection ⊕ fuzz)) (lt d2 (length_sq_of g (vsub_of g p end)))
+      (lt (d2 ⊗ chordSq) (cross ⊗ cross)))
 
   -- of a point in the sweep: beyond the outer radius, or inside the inner one if there is one
   unfoldable pub ring_far_of : Float → Float → Float → Bool
-  ring_far_of radius radial_sq d =
+  ring_far_of radius radialSq d =
       let outer = radius ⊕ d in
       let inner = radius ⊖ d in
-      cond (lt (outer ⊗ outer) radial_sq) true
+      cond (lt (outer ⊗ outer) radialSq) true
       (cond (le radius d) false
-      (lt radial_sq (inner ⊗ inner)))
+      (lt radialSq (inner ⊗ inner)))
 
   abbrev pub end_far_of : Vector2 → Vector2 → Float → Bool
   end_far_of end p d2 = lt d2 (dist_sq_of g end p)

@@ -2,11 +2,11 @@
 use mathlib.Core.Path.{◌≡◌, refl, sym, ap, ap₂, ◌∙◌}
 use mathlib.Core.List.{[], ◌∷◌}
 use Prim.Native.Nat.{ℕ, suc, ◌+◌, ◌-◌, ◌*◌, ◌/◌, ◌%◌, ◌^◌, ◌<◌, ◌≤◌}
-use native.Mathlib.Nat.{mod_eq_of_lt, le_trans, le_of_eq, div_div_eq_div_mul}
+use native.Mathlib.Nat.{mod-eq_of_lt, le_trans, le_of_eq, div-div-eq-div-mul}
 use native.Mathlib.Decide.{dec_lt}
 use native.Mathlib.Omega.{arith}
 use lib.Bits.{bit_and, and_block, and_mask, and_le_r}
-use borrow.Author.Tests.{lt_ltb, le_ltb}
+use borrow.Author.Tests.{lt-ltb, le-ltb}
 use Rattle.text.specs.Digits.{glyph, hex, word}
 
 -- of the lowest part, of k bits, a mask keeps the last m; x is the parts b above r
@@ -25,7 +25,7 @@ carry : (a d M : ℕ) → d < 0x20 → bit_and ((a * 0x100 + d) / 0x10) (M * 0x1
 carry a d M l = lowest 8 1 ((a * 0x100 + d) / 0x10) (a / 0x10) (a % 0x10 * 0x10 + d / 0x10) (d / 0x10) M (omega arith) (omega arith) (omega arith) (omega arith)
 
 only : (m x : ℕ) → x < 2 ^ m → bit_and x (2 ^ m - 1) ≡ x
-only m x h = and_mask x m ∙ mod_eq_of_lt h
+only m x h = and_mask x m ∙ mod-eq_of_lt h
 
 -- the parts of a number, the lowest first
 abbrev in32 : ℕ → ℕ → ℕ
@@ -84,8 +84,8 @@ code d c = 48 + d + c * 39
 
 code_is : (d : ℕ) → d < 0x10 → code d ((d + 6) / 0x10) ≡ glyph d
 code_is d h = elim (dec_lt d 10) [
-  | yes p ↦ rw (lt_ltb d 10 p) (omega arith)
-  | no p ↦ rw (le_ltb d 10 (omega arith)) (omega arith)
+  | yes p ↦ rw (lt-ltb d 10 p) (omega arith)
+  | no p ↦ rw (le-ltb d 10 (omega arith)) (omega arith)
 ]
 
 raised : (a b c d e f g h : ℕ) → in8 a b c d e f g h + 0x606_0606_0606_0606 ≡ in8 (a + 6) (b + 6) (c + 6) (d + 6) (e + 6) (f + 6) (g + 6) (h + 6)
@@ -132,18 +132,18 @@ bytes_of : (w a b c d e f g h : ℕ) → a < 0x100 → b < 0x100 → c < 0x100 �
     → (w % 0x100) ∷ (w / 0x100 % 0x100) ∷ (w / 0x1_0000 % 0x100) ∷ (w / 0x100_0000 % 0x100) ∷ (w / 0x1_0000_0000 % 0x100) ∷ (w / 0x100_0000_0000 % 0x100) ∷ (w / 0x1_0000_0000_0000 % 0x100) ∷ (w / 0x100_0000_0000_0000) ∷ [] ≡ a ∷ b ∷ c ∷ d ∷ e ∷ f ∷ g ∷ h ∷ []
 bytes_of w a b c d e f g h ha hb hc hd he hf hg hh p =
     let q₁ : w / 0x100 ≡ ((((((h * 0x100 + g) * 0x100 + f) * 0x100 + e) * 0x100 + d) * 0x100 + c) * 0x100 + b) = ap (λ (z : ℕ). z / 0x100) p ∙ rest ((((((h * 0x100 + g) * 0x100 + f) * 0x100 + e) * 0x100 + d) * 0x100 + c) * 0x100 + b) a ha in
-    let q₂ : w / 0x1_0000 ≡ (((((h * 0x100 + g) * 0x100 + f) * 0x100 + e) * 0x100 + d) * 0x100 + c) = sym (div_div_eq_div_mul w 0x100 0x100) ∙ ap (λ (z : ℕ). z / 0x100) q₁ ∙ rest (((((h * 0x100 + g) * 0x100 + f) * 0x100 + e) * 0x100 + d) * 0x100 + c) b hb in
-    let q₃ : w / 0x100_0000 ≡ ((((h * 0x100 + g) * 0x100 + f) * 0x100 + e) * 0x100 + d) = sym (div_div_eq_div_mul w 0x1_0000 0x100) ∙ ap (λ (z : ℕ). z / 0x100) q₂ ∙ rest ((((h * 0x100 + g) * 0x100 + f) * 0x100 + e) * 0x100 + d) c hc in
-    let q₄ : w / 0x1_0000_0000 ≡ (((h * 0x100 + g) * 0x100 + f) * 0x100 + e) = sym (div_div_eq_div_mul w 0x100_0000 0x100) ∙ ap (λ (z : ℕ). z / 0x100) q₃ ∙ rest (((h * 0x100 + g) * 0x100 + f) * 0x100 + e) d hd in
-    let q₅ : w / 0x100_0000_0000 ≡ ((h * 0x100 + g) * 0x100 + f) = sym (div_div_eq_div_mul w 0x1_0000_0000 0x100) ∙ ap (λ (z : ℕ). z / 0x100) q₄ ∙ rest ((h * 0x100 + g) * 0x100 + f) e he in
-    let q₆ : w / 0x1_0000_0000_0000 ≡ (h * 0x100 + g) = sym (div_div_eq_div_mul w 0x100_0000_0000 0x100) ∙ ap (λ (z : ℕ). z / 0x100) q₅ ∙ rest (h * 0x100 + g) f hf in
-    let q₇ : w / 0x100_0000_0000_0000 ≡ h = sym (div_div_eq_div_mul w 0x1_0000_0000_0000 0x100) ∙ ap (λ (z : ℕ). z / 0x100) q₆ ∙ rest h g hg in
+    let q₂ : w / 0x1_0000 ≡ (((((h * 0x100 + g) * 0x100 + f) * 0x100 + e) * 0x100 + d) * 0x100 + c) = sym (div-div-eq-div-mul w 0x100 0x100) ∙ ap (λ (z : ℕ). z / 0x100) q₁ ∙ rest (((((h * 0x100 + g) * 0x100 + f) * 0x100 + e) * 0x100 + d) * 0x100 + c) b hb in
+    let q₃ : w / 0x100_0000 ≡ ((((h * 0x100 + g) * 0x100 + f) * 0x100 + e) * 0x100 + d) = sym (div-div-eq-div-mul w 0x1_0000 0x100) ∙ ap (λ (z : ℕ). z / 0x100) q₂ ∙ rest ((((h * 0x100 + g) * 0x100 + f) * 0x100 + e) * 0x100 + d) c hc in
+    let q₄ : w / 0x1_0000_0000 ≡ (((h * 0x100 + g) * 0x100 + f) * 0x100 + e) = sym (div-div-eq-div-mul w 0x100_0000 0x100) ∙ ap (λ (z : ℕ). z / 0x100) q₃ ∙ rest (((h * 0x100 + g) * 0x100 + f) * 0x100 + e) d hd in
+    let q₅ : w / 0x100_0000_0000 ≡ ((h * 0x100 + g) * 0x100 + f) = sym (div-div-eq-div-mul w 0x1_0000_0000 0x100) ∙ ap (λ (z : ℕ). z / 0x100) q₄ ∙ rest ((h * 0x100 + g) * 0x100 + f) e he in
+    let q₆ : w / 0x1_0000_0000_0000 ≡ (h * 0x100 + g) = sym (div-div-eq-div-mul w 0x100_0000_0000 0x100) ∙ ap (λ (z : ℕ). z / 0x100) q₅ ∙ rest (h * 0x100 + g) f hf in
+    let q₇ : w / 0x100_0000_0000_0000 ≡ h = sym (div-div-eq-div-mul w 0x1_0000_0000_0000 0x100) ∙ ap (λ (z : ℕ). z / 0x100) q₆ ∙ rest h g hg in
     rw ((ap (λ (z : ℕ). z % 0x100) p ∙ lowest_byte ((((((h * 0x100 + g) * 0x100 + f) * 0x100 + e) * 0x100 + d) * 0x100 + c) * 0x100 + b) a ha), (ap (λ (z : ℕ). z % 0x100) q₁ ∙ lowest_byte (((((h * 0x100 + g) * 0x100 + f) * 0x100 + e) * 0x100 + d) * 0x100 + c) b hb), (ap (λ (z : ℕ). z % 0x100) q₂ ∙ lowest_byte ((((h * 0x100 + g) * 0x100 + f) * 0x100 + e) * 0x100 + d) c hc), (ap (λ (z : ℕ). z % 0x100) q₃ ∙ lowest_byte (((h * 0x100 + g) * 0x100 + f) * 0x100 + e) d hd), (ap (λ (z : ℕ). z % 0x100) q₄ ∙ lowest_byte ((h * 0x100 + g) * 0x100 + f) e he), (ap (λ (z : ℕ). z % 0x100) q₅ ∙ lowest_byte (h * 0x100 + g) f hf), (ap (λ (z : ℕ). z % 0x100) q₆ ∙ lowest_byte h g hg), (q₇)) refl
 
 glyph_lt : (n : ℕ) → glyph (n % 16) < 0x100
 glyph_lt n = elim (dec_lt (n % 16) 10) [
-  | yes p ↦ rw (lt_ltb (n % 16) 10 p) (omega arith)
-  | no p ↦ rw (le_ltb (n % 16) 10 (omega arith)) (omega arith)
+  | yes p ↦ rw (lt-ltb (n % 16) 10 p) (omega arith)
+  | no p ↦ rw (le-ltb (n % 16) 10 (omega arith)) (omega arith)
 ]
 
 pub hex_bytes : (x w : ℕ) → w ≡ word (hex 8 x) → (w % 0x100) ∷ (w / 0x100 % 0x100) ∷ (w / 0x1_0000 % 0x100) ∷ (w / 0x100_0000 % 0x100) ∷ (w / 0x1_0000_0000 % 0x100) ∷ (w / 0x100_0000_0000 % 0x100) ∷ (w / 0x1_0000_0000_0000 % 0x100) ∷ (w / 0x100_0000_0000_0000) ∷ [] ≡ hex 8 x

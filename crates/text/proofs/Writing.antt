@@ -4,29 +4,29 @@ use mathlib.Core.List.{List, [], ◌∷◌, ◌++◌}
 use Prim.Native.Nat.{ℕ, suc, ◌+◌, ◌-◌, ◌≤◌, ◌<◌}
 use mathlib.Core.Bool.{Bool, true, false, not}
 use lib.Dec.{leb}
-use borrow.Author.Tests.{leb_true, leb_false, le_leb, lt_leb}
+use borrow.Author.Tests.{leb-true, leb-false, le-leb, lt-leb}
 use Rattle.real.proofs.Pick.{passed, failed}
-use native.Mathlib.Nat.{add_zero}
+use native.Mathlib.Nat.{add-zero}
 use native.Mathlib.Decide.{dec_lt}
 use native.Mathlib.Omega.{arith}
-use lib.ListN.{length, set, take, drop, length_append}
-use lib.Seq.{sets, sets_eq, length_sets, take_at}
+use lib.ListN.{length, set, take, drop, length-append}
+use lib.Seq.{sets, sets-eq, length-sets, take_at}
 use Rattle.text.specs.Wrote.{Wrote, Piece, Put, Begins, Filled}
 
 pub sets_append : (l : List ℕ) (i : ℕ) (t u : List ℕ) → sets (sets l i t) (i + length t) u ≡ sets l i (t ++ u)
-sets_append l i [] u = ap (λ (k : ℕ). sets l k u) (add_zero i)
+sets_append l i [] u = ap (λ (k : ℕ). sets l k u) (add-zero i)
 sets_append l i (a ∷ t) u =
     let e : i + suc (length t) ≡ suc i + length t = omega arith in
     ap (λ (k : ℕ). sets (sets (set l i a) (suc i) t) k u) e ∙ sets_append (set l i a) (suc i) t u
 
 -- nothing
 pub none : (l : List ℕ) (i : ℕ) → Wrote l i [] l i
-none l i = record { text = refl; end = sym (add_zero i) }
+none l i = record { text = refl; end = sym (add-zero i) }
 
 -- after the text t at `at`, whose end is e, the text u
 pub next : {l₀ l₁ l₂ : List ℕ} {at e f : ℕ} {t u : List ℕ} → Wrote l₀ at t l₁ e → Wrote l₁ e u l₂ f → Wrote l₀ at (t ++ u) l₂ f
 next {l₀} {l₁} {l₂} {at} {e} {f} {t} {u} p q =
-    let h = length_append t u in
+    let h = length-append t u in
     let m = p.end in
     let n = q.end in
     record { text = q.text ∙ ap₂ (λ (l : List ℕ) (k : ℕ). sets l k u) p.text p.end ∙ sets_append l₀ at t u; end = omega arith }
@@ -49,10 +49,10 @@ no_piece l i = record { wrote = λ h. none l i }
 pub then : {l₀ l₁ l₂ : List ℕ} {at e f : ℕ} {t u : List ℕ} → Piece l₀ at t l₁ e → Piece l₁ e u l₂ f → Piece l₀ at (t ++ u) l₂ f
 then {l₀} {l₁} {l₂} {at} {e} {f} {t} {u} p q = record {
   wrote = λ h.
-      let n = length_append t u in
+      let n = length-append t u in
       let w = p.wrote (omega arith) in
       let m = w.end in
-      let k = ap length w.text ∙ length_sets l₀ at t in
+      let k = ap length w.text ∙ length-sets l₀ at t in
       next w (q.wrote (omega arith));
 }
 
@@ -91,16 +91,16 @@ full {l} {t} {at} h = record { piece = record { wrote = λ p. absurd (let z : �
 -- n bytes fit behind a place where as many are left
 pub behind : (at n m : ℕ) → at ≤ m → leb n (m - at) ≡ leb (at + n) m
 behind at n m h = elim (dec_lt (m - at) n) [
-  | yes p ↦ lt_leb n (m - at) p ∙ sym (lt_leb (at + n) m (omega arith))
-  | no p ↦ le_leb n (m - at) (omega arith) ∙ sym (le_leb (at + n) m (omega arith))
+  | yes p ↦ lt-leb n (m - at) p ∙ sym (lt-leb (at + n) m (omega arith))
+  | no p ↦ le-leb n (m - at) (omega arith) ∙ sym (le-leb (at + n) m (omega arith))
 ]
 
 -- the same, from the answer b to whether there is room for n bytes
 pub roomy : {b : Bool} {m k : ℕ} → b ≡ leb m k → not b ≡ false → m ≤ k
-roomy {b} {m} {k} e h = leb_true m k (passed e h)
+roomy {b} {m} {k} e h = leb-true m k (passed e h)
 
 pub refused : {b : Bool} {l t : List ℕ} {at n : ℕ} → b ≡ leb (at + n) (length l) → not b ≡ true → length t ≡ n → Put l at t l at
-refused {b} {l} {t} {at} {n} e h q = let f = leb_false (at + n) (length l) (failed e h) in full (omega arith)
+refused {b} {l} {t} {at} {n} e h q = let f = leb-false (at + n) (length l) (failed e h) in full (omega arith)
 
 pub allowed : {b : Bool} {l l' t : List ℕ} {at n e : ℕ} → b ≡ leb (at + n) (length l) → not b ≡ false → length t ≤ n → Wrote l at t l' e → Put l at t l' e
 allowed {b} {l} {l'} {t} {at} {n} {e} p h q w = let f = roomy {k = length l} p h in fitted (omega arith) w
@@ -143,8 +143,8 @@ filled {l} {l'} {t} {e} w h =
     let q = w.end in
     let n : length t ≡ e = omega arith in
     let z₀ : 0 + length t ≡ e = omega arith in
-    let z = ap length w.text ∙ length_sets l 0 t in
-    record { count = sym n; room = omega arith; holds = w.text ∙ sets_eq t l 0 (omega arith) ∙ ap (λ (m : ℕ). t ++ drop m l) z₀ }
+    let z = ap length w.text ∙ length-sets l 0 t in
+    record { count = sym n; room = omega arith; holds = w.text ∙ sets-eq t l 0 (omega arith) ∙ ap (λ (m : ℕ). t ++ drop m l) z₀ }
 
 -- which begins with it then
 pub begins : {l l' t : List ℕ} {n : ℕ} → Filled t l l' n → Begins t l' n

@@ -2,8 +2,8 @@
 use mathlib.Core.Path.{◌≡◌, refl, ap, ap₂, ◌∙◌}
 use mathlib.Core.Bool.{Bool, true, false, ◌&&◌}
 use Prim.Native.Nat.{ℕ, zero, suc, ◌+◌, ◌<◌}
-use native.Mathlib.Nat.{not_suc_le_zero}
-use native.Mathlib.Numerals.{add_one}
+use native.Mathlib.Nat.{not-suc-le-zero}
+use native.Mathlib.Numerals.{add-one}
 use native.Mathlib.Decide.{dec_lt}
 use native.Mathlib.Omega.{arith}
 use Rattle.real.proofs.Replies.{and_both}
@@ -11,12 +11,12 @@ use Rattle.view.specs.Outline.{all}
 
 pub all_more : (f : ℕ → Bool) (k : ℕ) → all f k ≡ true → f k ≡ true → all f (k + 1) ≡ true
 unfolding all
-all_more f k p q = rw (add_one, p) q
+all_more f k p q = rw (add-one, p) q
 
 -- one that fails
 pub all_not : (f : ℕ → Bool) (n k : ℕ) → k < n → f k ≡ false → all f n ≡ false
 unfolding all
-all_not f zero k h e = absurd (not_suc_le_zero h)
+all_not f zero k h e = absurd (not-suc-le-zero h)
 all_not f (suc n) k h e = go (dec_lt k n) (λ p. all_not f n k p e)
   where
     no_right : (b : Bool) → (b && false) ≡ false
@@ -30,7 +30,7 @@ all_not f (suc n) k h e = go (dec_lt k n) (λ p. all_not f n k p e)
 -- each holds
 pub all_each : (f : ℕ → Bool) (n : ℕ) → all f n ≡ true → (k : ℕ) → k < n → f k ≡ true
 unfolding all
-all_each f zero e k h = absurd (not_suc_le_zero h)
+all_each f zero e k h = absurd (not-suc-le-zero h)
 all_each f (suc n) e k h = go (dec_lt k n) (λ p. all_each f n (and_both (all f n) (f n) e).0 k p)
   where
     go : Dec (k < n) → (k < n → f k ≡ true) → f k ≡ true

@@ -6,7 +6,7 @@ use Prim.Native.Nat.{ℕ, ◌%◌, ◌<◌, ◌≤◌}
 use lib.ListN.{length}
 use lib.Dec.{ltb, leb, eqb}
 use lib.Ieee.{Float}
-use borrow.Author.Tests.{ltb_true, leb_true, lt_ltb, le_leb}
+use borrow.Author.Tests.{ltb-true, leb-true, lt-ltb, le-leb}
 use Rattle.real.specs.Refusal.{bad_number, bad_outline, bad_index, bad_offset, uneven_bulges}
 use Rattle.real.specs.Reply.{Reply, refused, given}
 use Rattle.real.proofs.Replies.{never_given, check_passed, check_refused, and_both}
@@ -17,7 +17,7 @@ use Rattle.view.specs.Record.{record_ok, even_bits}
 use Rattle.view.specs.Needs.{Placed}
 use Rattle.view.specs.Check.{pass, check_reply, place_of, check_of, even_of}
 use Rattle.view.specs.declared.check.Check.{Check}
-use Rattle.view.specs.declared.check.Check.TheVariants as check_case
+use Rattle.view.specs.declared.check.Check.TheVariants as check-case
 use Rattle.view.specs.declared.view_data.PlineViewData.{PlineViewData}
 use Rattle.view.proofs.All.{all_each}
 
@@ -25,19 +25,19 @@ no_refusal : {A : Type 0} (m : ℕ) (rest : Reply A) → refused m ≡ pass → 
 no_refusal m rest e = never_given e
 
 -- the two cases of the code's answer to a check
-pub told_refused : {m : ℕ} {r : Check} {x : Reply (Unit {0})} → r ≡ check_case.Refused m → check_reply r ≡ x → refused m ≡ x
+pub told_refused : {m : ℕ} {r : Check} {x : Reply (Unit {0})} → r ≡ check-case.Refused m → check_reply r ≡ x → refused m ≡ x
 told_refused t e = ap check_reply (sym t) ∙ e
 
-pub told_passed : {r : Check} {x : Reply (Unit {0})} → r ≡ check_case.Passed → check_reply r ≡ x → pass ≡ x
+pub told_passed : {r : Check} {x : Reply (Unit {0})} → r ≡ check-case.Passed → check_reply r ≡ x → pass ≡ x
 told_passed t e = ap check_reply (sym t) ∙ e
 
 pub few_of_whole : (s : List Float) → whole_outline (length s) ≡ true → count_of s ≤ most_vertices
 unfolding whole_outline
-few_of_whole s e = leb_true _ _ (and_both (eqb (length s % 3) 0) _ e).1
+few_of_whole s e = leb-true _ _ (and_both (eqb (length s % 3) 0) _ e).1
 
 pub viewable_in : (s : List Float) → viewable s ≡ true → (2 ≤ count_of s) × (count_of s ≤ most_vertices)
 unfolding viewable
-viewable_in s e = let a = and_both (whole_outline (length s)) _ e in (leb_true _ _ a.1, few_of_whole s a.0)
+viewable_in s e = let a = and_both (whole_outline (length s)) _ e in (leb-true _ _ a.1, few_of_whole s a.0)
 
 pub vertex_in : (g : Grade) (s : List Float) → numbers_ok g s ≡ true → (k : ℕ) → k < count_of s → vertex_ok g (vertex_value s k) ≡ true
 unfolding numbers_ok
@@ -57,11 +57,11 @@ module _ (s : List Float) (d : PlineViewData) where
       let a = check_passed bad_offset _ e in
       let b = check_passed bad_index _ a.1 in
       let h = viewable_in s v in
-      record { few = h.1; two = h.0; start = ltb_true _ _ b.0; offset = leb_true _ _ a.0 }
+      record { few = h.1; two = h.0; start = ltb-true _ _ b.0; offset = leb-true _ _ a.0 }
 
   pub place_rest : {A : Type 0} (rest : Reply A) → Placed s d → place_of s d rest ≡ rest
   unfolding place_of
-  place_rest rest p = simp (le_leb _ _ p.offset, lt_ltb _ _ p.start)
+  place_rest rest p = simp (le-leb _ _ p.offset, lt-ltb _ _ p.start)
 
 -- all that the view calls check, and what reversal and trim check besides
 pub record Checked (g : Grade) (s : List Float) (d : PlineViewData) : Type 0 where

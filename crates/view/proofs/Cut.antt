@@ -7,7 +7,7 @@ use native.Mathlib.Omega.{arith}
 use lib.Dec.{ltb}
 use lib.ListN.{length}
 use lib.Ieee.{Float}
-use borrow.Author.Tests.{lt_ltb, le_ltb, ltb_true, ltb_false, le_leb, leb_false, lt_leb, not_false}
+use borrow.Author.Tests.{lt-ltb, le-ltb, ltb-true, ltb-false, le-leb, leb-false, lt-leb, not-false}
 use Rattle.real.specs.Refusal.{bad_number, bad_tolerance, bad_outline, bad_index}
 use Rattle.real.specs.Reply.{Reply, given, check}
 use Rattle.real.specs.Tally.{plain}
@@ -31,12 +31,12 @@ module _ (s : List Float) (d : PlineViewData) where
   pub before_gap : (closed : Bool) → across_gap closed s d ≡ false → closed ≡ false → d.start_index + d.end_index_offset < count_of s - 1
   unfolding across_gap
   before_gap true e o = let z : ◌≡◌ {A = ℕ} 0 1 = cc in absurd (omega arith)
-  before_gap false e o = leb_false (count_of s - 1) _ e
+  before_gap false e o = leb-false (count_of s - 1) _ e
 
   pub not_across : (closed : Bool) → (closed ≡ false → d.start_index + d.end_index_offset < count_of s - 1) → across_gap closed s d ≡ false
   unfolding across_gap
   not_across true h = refl
-  not_across false h = lt_leb (count_of s - 1) _ (h refl)
+  not_across false h = lt-leb (count_of s - 1) _ (h refl)
 
 module _ (closed : Bool) (g : Grade) (limit : Float) (s : List Float) (d : PlineViewData) where
   -- a link of the chain that is passed on the way to cut: a refusal, a verdict that is held, and one among the last verdicts
@@ -82,27 +82,27 @@ module _ (closed : Bool) (g : Grade) (limit : Float) (s : List Float) (d : Pline
         outline = n.0;
         numbers = n.1;
         limited = l.0;
-        two = ltb_false _ _ two.0;
-        offset = ltb_false _ _ off.0;
-        start = ltb_true _ _ st.0;
-        on_start = not_false _ v3.0;
-        on_end = not_false _ v4.0;
+        two = ltb-false _ _ two.0;
+        offset = ltb-false _ _ off.0;
+        start = ltb-true _ _ st.0;
+        on_start = not-false _ v3.0;
+        on_end = not-false _ v4.0;
         apart = v5.0;
-        bulges = not_false _ v6.0;
+        bulges = not-false _ v6.0;
         gap = before_gap s d closed (past_gap _ v6.1);
       }
 
   pub cut_when : Cut closed g limit s d → mark_answer closed s d (validate_of g limit s d) ≡ given cut
   unfolding validate_by counts_by placed_by end_verdict mark_of
   cut_when c =
-      simp (c.whole, c.outline, c.numbers, c.limited, le_ltb (count_of s) 2 c.two, le_ltb (count_of s) d.end_index_offset c.offset, lt_ltb d.start_index (count_of s) c.start, c.on_start, c.on_end, c.apart, c.bulges, not_across s d closed c.gap)
+      simp (c.whole, c.outline, c.numbers, c.limited, le-ltb (count_of s) 2 c.two, le-ltb (count_of s) d.end_index_offset c.offset, lt-ltb d.start_index (count_of s) c.start, c.on_start, c.on_end, c.apart, c.bulges, not_across s d closed c.gap)
 
   -- a cut view passes the checks of the other view calls
   pub cut_clear : Cut closed g limit s d → Checked g s d
   unfolding viewable
   cut_clear c =
       record {
-        outline = simp (c.whole, le_leb 2 (count_of s) c.two);
+        outline = simp (c.whole, le-leb 2 (count_of s) c.two);
         numbers = c.outline;
         record_in = c.numbers;
         placed = record { few = few_of_whole s c.whole; two = c.two; start = c.start; offset = c.offset };
@@ -111,4 +111,4 @@ module _ (closed : Bool) (g : Grade) (limit : Float) (s : List Float) (d : Pline
   -- so it lists wherever there is room
   pub cut_lists : mark_answer closed s d (validate_of g limit s d) ≡ given cut → (m : ℕ) → needed d ≤ m → list_of g s d m ≡ given (vertices d)
   unfolding list_of
-  cut_lists e m h = checked_rest g s d _ (cut_clear (cut_says e)) ∙ simp (le_leb (needed d) m h)
+  cut_lists e m h = checked_rest g s d _ (cut_clear (cut_says e)) ∙ simp (le-leb (needed d) m h)

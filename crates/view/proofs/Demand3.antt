@@ -8,8 +8,8 @@ use native.Mathlib.Omega.{arith}
 use lib.ListN.{length}
 use lib.Dec.{ltb}
 use lib.Ieee.{Float, nan, inf, fin, neg, to_bits, of_bits}
-use lib.Ieee.Bits.{of_bits_to_bits}
-use borrow.Author.Tests.{eq_eqb, ne_eqb, lt_ltb, le_leb, ltb_true}
+use lib.Ieee.Bits.{of_bits-to_bits}
+use borrow.Author.Tests.{eq-eqb, ne_eqb, lt-ltb, le-leb, ltb-true}
 use Rattle.real.specs.Refusal.{bad_trim}
 use Rattle.real.specs.Reply.{given, check}
 use Rattle.real.proofs.Replies.{and_both}
@@ -39,7 +39,7 @@ neg_neg (fin true m e) = refl
 neg_neg (fin false m e) = refl
 
 pub same_bits : (g : Grade) (x y : Float) → SameBits g x y → x ≡ y
-same_bits g x y h = sym (of_bits_to_bits g.format x h.first) ∙ ap (of_bits g.format) h.bits ∙ of_bits_to_bits g.format y h.second
+same_bits g x y h = sym (of_bits-to_bits g.format x h.first) ∙ ap (of_bits g.format) h.bits ∙ of_bits-to_bits g.format y h.second
 
 module _ (g : Grade) where
   -- a coordinate and a bulge in range
@@ -95,7 +95,7 @@ module _ (g : Grade) (s : List Float) where
         go (yes p) = simp (ne_eqb d.end_index_offset 0 (omega arith))
         go (no p) =
             let e : d.end_index_offset ≡ 0 = omega arith in
-            simp (eq_eqb d.end_index_offset 0 e, eq_eqb (to_bits g.format d.updated_start.bulge) (to_bits g.format d.updated_end_bulge) (ap (to_bits g.format) (f.even e)))
+            simp (eq-eqb d.end_index_offset 0 e, eq-eqb (to_bits g.format d.updated_start.bulge) (to_bits g.format d.updated_end_bulge) (ap (to_bits g.format) (f.even e)))
 
     evened : Evened g s d
     evened = record { clear = f.clear; even = even_bits_law }
@@ -136,10 +136,10 @@ module _ (g : Grade) (s : List Float) where
     lists = record { answer = λ m h. answers m h; buffer = λ out h. ap (λ r. buffer_after r out (written g s d out)) (answers (length out) h) ∙ rw count }
       where
         answers : (m : ℕ) → 3 * length (listed g s d) ≤ m → list_of g s d m ≡ given (length (listed g s d))
-        answers m h = rw count (checked_rest g s d _ f.clear ∙ simp (le_leb (needed d) m (rw count at h)))
+        answers m h = rw count (checked_rest g s d _ f.clear ∙ simp (le-leb (needed d) m (rw count at h)))
 
   both : (i j n : ℕ) → i < j → j < n → (ltb i j && ltb j n) ≡ true
-  both i j n p q = simp (lt_ltb i j p, lt_ltb j n q)
+  both i j n p q = simp (lt-ltb i j p, lt-ltb j n q)
 
   -- what is said of one record
   kept : (d : PlineViewData) → Fine d → Kept g s d (listed g s d)
@@ -187,8 +187,8 @@ module _ (g : Grade) (s : List Float) where
 
       go : (p q : Bool) → ltb i j ≡ p → ltb j (vertices d) ≡ q → Stepped (trim i j) d
       go true true p q =
-          let below = ltb_true i j p in
-          let within = ltb_true j (vertices d) q in
+          let below = ltb-true i j p in
+          let within = ltb-true j (vertices d) q in
           let e = both i j (vertices d) below within in
           let e' : (ltb i j && ltb j (length (listed g s d))) ≡ true = rw (count d f) e in
           record {

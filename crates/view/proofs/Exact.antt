@@ -3,10 +3,10 @@ use mathlib.Core.Path.{◌≡◌, sym, ap, ◌∙◌}
 use mathlib.Core.List.{List, ◌++◌}
 use Prim.Native.Nat.{ℕ, ◌≤◌}
 use native.Mathlib.Omega.{arith}
-use lib.ListN.{length, take, drop, length_append, length_drop}
+use lib.ListN.{length, take, drop, length-append, length-drop}
 use lib.Seq.{take_at, drop_at}
 use lib.Ieee.{Float}
-use borrow.Author.Tests.{leb_true}
+use borrow.Author.Tests.{leb-true}
 use Rattle.real.specs.Refusal.{lacks_room}
 use Rattle.real.specs.Reply.{Reply, given}
 use Rattle.real.proofs.Replies.{same_given, check_passed}
@@ -31,15 +31,15 @@ in_front l out n e h =
       written = take_at l (drop n out) n e;
       kept = drop_at l (drop n out) n e;
       size =
-          let a = length_append l (drop n out) in
-          let b = length_drop n out in
+          let a = length-append l (drop n out) in
+          let b = length-drop n out in
           omega (arith, a, b, e, h);
     }
 
 module _ (g : Grade) (s : List Float) (d : PlineViewData) (out : List Float) (n : ℕ) (e : list_of g s d (length out) ≡ given n) where
   answered : (needed d ≤ length out) × (n ≡ vertices d)
   unfolding list_of
-  answered = let q = check_passed lacks_room _ (sym e ∙ checked_rest g s d _ (checked g s d _ (sym e))) in (leb_true _ _ q.0, same_given q.1)
+  answered = let q = check_passed lacks_room _ (sym e ∙ checked_rest g s d _ (checked g s d _ (sym e))) in (leb-true _ _ q.0, same_given q.1)
 
   buffer : list_buffer g s d out ≡ flat (listed g s d) ++ drop (needed d) out
   unfolding list_buffer written buffer_after

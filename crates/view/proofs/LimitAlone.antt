@@ -5,9 +5,9 @@ use mathlib.Core.List.{List}
 use Prim.Native.Nat.{ℕ, ◌+◌, ◌*◌, ◌≤◌}
 use native.Mathlib.Omega.{arith}
 use lib.Dec.{ltb}
-use lib.ListN.{get_or_eq_default}
+use lib.ListN.{get_or-eq_default}
 use lib.Ieee.{Float, nan, sub, add, lt}
-use borrow.Author.Tests.{ltb_true, ltb_false}
+use borrow.Author.Tests.{ltb-true, ltb-false}
 use Rattle.real.specs.Root.{abs_of}
 use Rattle.real.specs.Tally.{Way, plain, counting}
 use Rattle.plane.specs.Grade.{Grade}
@@ -28,11 +28,11 @@ module _ (g : Grade) (limit other : Float) (s : List Float) (lines : SameLines g
   -- past the outline a vertex is not a number, and no line
   past_same : (k : ℕ) → count_of s ≤ k → SameLine g limit other (vertex_value s k)
   unfolding sub add abs_of lt
-  past_same k h = simp (get_or_eq_default s nan {n = 3 * k + 2} (omega (arith, h)))
+  past_same k h = simp (get_or-eq_default s nan {n = 3 * k + 2} (omega (arith, h)))
 
   same_by : (k : ℕ) (inside : Bool) → ltb k (count_of s) ≡ inside → SameLine g limit other (vertex_value s k)
-  same_by k true e = lines k (ltb_true _ _ e)
-  same_by k false e = past_same k (ltb_false _ _ e)
+  same_by k true e = lines k (ltb-true _ _ e)
+  same_by k false e = past_same k (ltb-false _ _ e)
 
   same : (k : ℕ) → SameLine g limit other (vertex_value s k)
   same k = same_by k (ltb k (count_of s)) refl

@@ -3,11 +3,11 @@ use mathlib.Core.Path.{◌≡◌, refl, sym, ap, subst}
 use mathlib.Core.Bool.{Bool, true, false, cond}
 use mathlib.Core.List.{List, [], ◌∷◌}
 use Prim.Native.Nat.{ℕ, ◌+◌, ◌-◌, ◌<◌, ◌≤◌}
-use native.Mathlib.Nat.{mod_lt}
+use native.Mathlib.Nat.{mod-lt}
 use native.Mathlib.Omega.{arith}
 use lib.Dec.{ltb, eqb}
 use lib.Ieee.{Float, neg, add, sub, mul, of_bits, of_fields, odd, le, lt, eq}
-use borrow.Author.Tests.{ltb_true, leb_true, eq_eqb}
+use borrow.Author.Tests.{ltb-true, leb-true, eq-eqb}
 use Rattle.real.specs.Refusal.{bad_number, bad_tolerance, bad_outline, bad_index, bad_offset, not_closed}
 use Rattle.real.specs.Reply.{given}
 use Rattle.real.specs.Root.{abs_of}
@@ -21,7 +21,7 @@ use Rattle.plane.specs.declared.pline_vertex.PlineVertex.{PlineVertex}
 use Rattle.seg.specs.Cases.{half, minus_half, vec}
 use Rattle.seg.proofs.HalfCircle.{Sound, double_sound, bulge_in, stays_in_range, InRange}
 use Rattle.lists.specs.Plain.{tab, turn, turn_at, turn_list, step_list, row_list}
-use Rattle.lists.specs.View.{forward, view_list, vertex_at_of as position_at}
+use Rattle.lists.specs.View.{forward, view_list, vertex_at_of as positionAt}
 use Rattle.view.specs.Outline.{vertex_value, count_of, viewable, all, numbers_ok}
 use Rattle.view.specs.Record.{record_ok}
 use Rattle.view.specs.Segment.{split_segment_of}
@@ -62,10 +62,10 @@ module _ (g : Grade) (s : List Float) (p : Vector2) (eps : Float) (a : Asked g s
   size = (viewable_in s a.outline).0
 
   next_in : (k : ℕ) → next_of s k < count_of s
-  next_in k = mod_lt (k + 1) (omega (arith, size))
+  next_in k = mod-lt (k + 1) (omega (arith, size))
 
   before_in : (k : ℕ) → bulge_ok g (vertex_before s k).bulge ≡ true
-  before_in k = bulge_in g _ (vertex_in g s a.numbers _ (mod_lt (k + (count_of s - 1)) (omega (arith, size))))
+  before_in k = bulge_in g _ (vertex_in g s a.numbers _ (mod-lt (k + (count_of s - 1)) (omega (arith, size))))
 
   -- a forward record whose parts are in range
   made : (start : ℕ) (first : PlineVertex) (e : Ending) → start < count_of s → vertex_ok g first ≡ true → e.offset ≤ count_of s → Ended g first.bulge e → Fresh g s (forward_data_of start first p e)
@@ -87,7 +87,7 @@ module _ (g : Grade) (s : List Float) (p : Vector2) (eps : Float) (a : Asked g s
   ended_fresh start first e d h v x q =
       let l = check_passed bad_offset (given (forward_data_of start first p e)) q in
       let same : forward_data_of start first p e ≡ d = same_given (sym l.1) in
-      subst (Fresh g s) same (made start first e h v (leb_true _ _ l.0) x)
+      subst (Fresh g s) same (made start first e h v (leb-true _ _ l.0) x)
 
   moved_in : (k : ℕ) → k < count_of s → moved_on g s p k eps < count_of s
   unfolding moved_on
@@ -103,7 +103,7 @@ module _ (g : Grade) (s : List Float) (p : Vector2) (eps : Float) (a : Asked g s
     unfolding ending_of end_on_top_of end_on_segment_of
     ends at b traverse h ok t =
         either (Ended g b) (vnear_of g p (pos_of (vertex_value s at)) eps)
-        (λ _. record { bulge_ok_law = either (λ (x : Float). bulge_ok g x ≡ true) (eqb (traverse - 1) 0) (λ _. ok) (λ _. before_in at); even = λ z. sym (ap (λ (f : Bool). cond f b (vertex_before s at).bulge) (eq_eqb (traverse - 1) 0 z)) })
+        (λ _. record { bulge_ok_law = either (λ (x : Float). bulge_ok g x ≡ true) (eqb (traverse - 1) 0) (λ _. ok) (λ _. before_in at); even = λ z. sym (ap (λ (f : Bool). cond f b (vertex_before s at).bulge) (eq-eqb (traverse - 1) 0 z)) })
         (λ _. record { bulge_ok_law = bulge_in g _ (split_in at h).0; even = λ z. absurd (omega arith) })
 
     -- the view round the whole outline from segment k
@@ -129,8 +129,8 @@ module _ (g : Grade) (sound : Sound g) (limit : Float) (s : List Float) (p : Vec
       let i = check_passed bad_index _ c.1 in
       let b = and_both (ltb start (count_of s)) _ i.0 in
       let a : Asked g s p eps = record { outline = o.0; numbers = n₁.0; point = n₂.0; tolerance = (and_both (tol_ok g eps) _ t.0).0 } in
-      ended_fresh g s p eps a start first _ d (ltb_true _ _ b.0) n₂.1
-      (ends g s p eps a sound limit at first.bulge traverse (ltb_true _ _ b.1) (bulge_in g first n₂.1) (ltb_true _ _ c.0)) i.1
+      ended_fresh g s p eps a start first _ d (ltb-true _ _ b.0) n₂.1
+      (ends g s p eps a sound limit at first.bulge traverse (ltb-true _ _ b.1) (bulge_in g first n₂.1) (ltb-true _ _ c.0)) i.1
 
   pub new_start_fresh : (closed : Bool) (start : ℕ) → new_start_of g limit s closed p start eps ≡ given d → Fresh g s d
   unfolding new_start_of
@@ -144,7 +144,7 @@ module _ (g : Grade) (sound : Sound g) (limit : Float) (s : List Float) (p : Vec
       let i = check_passed bad_index (given (round_from_of g limit s p k eps)) c.1 in
       let a : Asked g s p eps = record { outline = o.0; numbers = n₁.0; point = n₁.1; tolerance = (and_both (tol_ok g eps) _ t.0).0 } in
       let same : round_from_of g limit s p k eps ≡ d = same_given (sym i.1) in
-      subst (Fresh g s) same (round_fresh g s p eps a sound limit k (moved_in g s p eps a start (ltb_true _ _ i.0)))
+      subst (Fresh g s) same (round_fresh g s p eps a sound limit k (moved_in g s p eps a start (ltb-true _ _ i.0)))
 
 made_fresh : (g : Grade) (s : List Float) (d : PlineViewData) → Fresh g s d → Made g s d
 made_fresh g s d w = record { demand3 = fine_demand3 g s d w.fine; number = w.number }
@@ -167,5 +167,5 @@ arc_made = refl
 
 -- and turned round it lists the arc from its end
 pub arc_turned : Lists double Q (row double Q (turn ∷ []) arc) (vert four four minus_half ∷ vert four zero zero ∷ [])
-unfolding Q arc row_list step_list turn_list turn_at view_list position_at forward tab neg of_bits
+unfolding Q arc row_list step_list turn_list turn_at view_list positionAt forward tab neg of_bits
 arc_turned = ((made_demand3_f64.created double.line Q 1 (vec four four) 2 _ 1 double.fuzz arc arc_made).demand3.rows (turn ∷ [])).lists

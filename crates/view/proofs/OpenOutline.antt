@@ -3,11 +3,11 @@ use mathlib.Core.Path.{◌≡◌, refl, sym, ap, ◌∙◌, subst}
 use mathlib.Core.Bool.{Bool, true, false, cond}
 use mathlib.Core.List.{List, [], ◌∷◌}
 use Prim.Native.Nat.{ℕ, ◌+◌, ◌-◌, ◌%◌}
-use native.Mathlib.Nat.{mod_eq_of_lt}
+use native.Mathlib.Nat.{mod-eq_of_lt}
 use native.Mathlib.Omega.{arith}
 use lib.Dec.{ltb}
 use lib.Ieee.{Float, neg}
-use borrow.Author.Tests.{ltb_true}
+use borrow.Author.Tests.{ltb-true}
 use Rattle.real.specs.Refusal.{bad_trim}
 use Rattle.real.specs.Reply.{Reply, refused, given}
 use Rattle.real.proofs.Replies.{same_given, check_passed, and_both}
@@ -41,7 +41,7 @@ module _ (g : Grade) (limit : Float) (s : List Float) where
       segment b k = wrapped d.start_index (cond b (d.end_index_offset - k) k) (count_of s)
 
       start_stays : (k : ℕ) → k ≡ 0 → (d.start_index + k) % count_of s ≡ d.start_index
-      start_stays k e = let q : d.start_index + k ≡ d.start_index = omega arith in rw q (mod_eq_of_lt c.start)
+      start_stays k e = let q : d.start_index + k ≡ d.start_index = omega arith in rw q (mod-eq_of_lt c.start)
 
       begins_on : (b : Bool) → on_outline g limit s (segment b 0) (pos_of (at b 0)) ≡ true
       begins_on false = rw (start_stays 0 refl, at_first g.zero (src_of s) (count_of s) (view_of d)) c.on_start
@@ -99,7 +99,7 @@ module _ (g : Grade) (limit : Float) (s : List Float) where
         let c = check_passed bad_trim _ (sym e ∙ even_rest g s d _ (evened g s d _ (sym e))) in
         let t = and_both (ltb i j) (ltb j (vertices d)) c.0 in
         subst (λ (x : PlineViewData). across_gap closed s x ≡ false) (sym (same_given c.1))
-        (not_across s (trimmed_of g s d i j) closed (λ o. trim_before g.zero (src_of s) (count_of s) (view_of d) (before_gap s d closed h o) i j (ltb_true i j t.0) (ltb_true j (vertices d) t.1)))
+        (not_across s (trimmed_of g s d i j) closed (λ o. trim_before g.zero (src_of s) (count_of s) (view_of d) (before_gap s d closed h o) i j (ltb-true i j t.0) (ltb-true j (vertices d) t.1)))
 
   stepped : (closed : Bool) (t : Step) (d : PlineViewData) → across_gap closed s d ≡ false → across_gap closed s (step g s t d) ≡ false
   unfolding step

@@ -3,7 +3,7 @@ use mathlib.Core.Path.{◌≡◌, refl, sym, ap, subst, ◌∙◌}
 use mathlib.Core.Bool.{Bool, true, false, cond, not, ◌&&◌, ◌||◌, false≢true}
 use mathlib.Core.List.{List}
 use Prim.Native.Nat.{ℕ, ◌+◌, ◌≤◌}
-use native.Mathlib.Nat.{add_zero}
+use native.Mathlib.Nat.{add-zero}
 use native.Mathlib.Omega.{arith}
 use lib.Dec.{ltb, eqb}
 use lib.ListN.{length}
@@ -80,16 +80,16 @@ judged t u off verdict =
     tally rest.value (t.roots + rest.roots)
 
 judged_off : (b : Bool) (n : ℕ) (u : Tally Bool) (off : Verdict) (verdict : Bool → Verdict) → not b ≡ true → tally off n ≡ judged (tally b n) u off verdict
-judged_off false n u off verdict h = ap (tally off) (sym (add_zero n))
+judged_off false n u off verdict h = ap (tally off) (sym (add-zero n))
 judged_off true n u off verdict h = absurd (false≢true h)
 
 judged_on : (b : Bool) (n : ℕ) (u : Tally Bool) (off : Verdict) (verdict : Bool → Verdict) → not b ≡ false → tally (verdict u.value) (n + u.roots) ≡ judged (tally b n) u off verdict
-judged_on true n u off verdict h = ap (λ m. tally (verdict u.value) (n + m)) (sym (add_zero u.roots))
+judged_on true n u off verdict h = ap (λ m. tally (verdict u.value) (n + m)) (sym (add-zero u.roots))
 judged_on false n u off verdict h = absurd (false≢true (sym h))
 
 judged_takes : (b : Bool) (n : ℕ) (u : Tally Bool) (p : Vector2) (verdict : Bool → Verdict) → ((on : Bool) → Later (verdict on)) → Takes n u.roots (judged (tally b n) u (start_off p) verdict)
-judged_takes false n u p verdict later = add_zero n
-judged_takes true n u p verdict later = ap (λ (m : ℕ). n + m) (add_zero u.roots) ∙ sym (later u.value n u.roots)
+judged_takes false n u p verdict later = add-zero n
+judged_takes true n u p verdict later = ap (λ (m : ℕ). n + m) (add-zero u.roots) ∙ sym (later u.value n u.roots)
 
 module _ (g : Grade) (limit : Float) where
   module _ (v1 v2 : PlineVertex) (p : Vector2) where
@@ -103,7 +103,7 @@ module _ (g : Grade) (limit : Float) where
         (cond (vnear_of g p (center_of g v1 v2) g.on_vertex) 0
         (cond (sweeps_over_of g v1 v2 (center_of g v1 v2) p g.on_vertex) 1 0)))
     unfolding on_segment_by near_closest_by
-    test_exactly = chosen_roots (near_end g v1 v2 p) _ _ ∙ ap (cond (near_end g v1 v2 p) 0) (add_zero _ ∙ closest_roots g limit v1 v2 p g.on_vertex)
+    test_exactly = chosen_roots (near_end g v1 v2 p) _ _ ∙ ap (cond (near_end g v1 v2 p) 0) (add-zero _ ∙ closest_roots g limit v1 v2 p g.on_vertex)
 
   module _ (s : List Float) (k : ℕ) (p : Vector2) where
     abbrev from : PlineVertex

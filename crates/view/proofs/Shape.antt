@@ -3,12 +3,12 @@ use mathlib.Core.Path.{◌≡◌, refl, sym, ap, ◌∙◌}
 use mathlib.Core.Bool.{Bool, true, false, cond, ◌&&◌, ◌||◌}
 use mathlib.Core.List.{List}
 use Prim.Native.Nat.{ℕ, ◌+◌, ◌*◌, ◌<◌}
-use native.Mathlib.Nat.{mod_lt}
+use native.Mathlib.Nat.{mod-lt}
 use native.Mathlib.Omega.{arith}
 use lib.ListN.{length}
 use lib.Dec.{ltb, eqb}
 use lib.Ieee.{Float, neg}
-use borrow.Author.Tests.{lt_ltb}
+use borrow.Author.Tests.{lt-ltb}
 use Rattle.real.specs.Reply.{given}
 use Rattle.plane.specs.Grade.{Grade}
 use Rattle.lists.specs.Plain.{Vert, at, flat}
@@ -37,7 +37,7 @@ module _ (g : Grade) (s : List Float) (d : PlineViewData) where
   module _ (c : Checked g s d) where
     past : (steps : ℕ) → past_ok g s d.start_index steps ≡ true
     unfolding past_ok
-    past steps = vertex_in g s c.numbers _ (mod_lt _ (omega (arith, c.placed)))
+    past steps = vertex_in g s c.numbers _ (mod-lt _ (omega (arith, c.placed)))
 
     reads : (k : ℕ) → reads_ok g s d k ≡ true
     unfolding reads_ok turned_ok
@@ -53,5 +53,5 @@ module _ (g : Grade) (s : List Float) (d : PlineViewData) where
     unfolding get_vertex_of view_list
     lookup_lists k h =
         let placed : Placed s d = c.placed in
-        simp (c.outline, place_rest, lt_ltb k (vertices d) h, c.record_in, reads k)
+        simp (c.outline, place_rest, lt-ltb k (vertices d) h, c.record_in, reads k)
         (ap (λ (v : Vert Float). given (of_vert v)) (sym (get_d_tab _ (vertices d) k _ h)))

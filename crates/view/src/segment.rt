@@ -17,10 +17,10 @@ pub struct RootedTest {
 }
 
 // An end that is nearer to a vertex than this sits on it.
-pub const ON_VERTEX: f64 = 1e_5;
+pub const ON_VERTEX: f64 = 1e-5;
 
 // A point that is nearer to a segment than this is on it.
-const ON_SEGMENT: f64 = 1e_3;
+const ON_SEGMENT: f64 = 1e-3;
 
 fn near_an_end(v1: PlineVertex, v2: PlineVertex, p: Vector2) -> bool
     ensures { result ≡ near_end double v1 v2 p }

@@ -4,11 +4,11 @@ use Rattle.real.specs.SqrtReply.{sqrt_reply}
 use Rattle.bisquefern.proofs.number.bf_sqrt.Statement.{statement}
 use Rattle.bisquefern.proofs.number.bf_sqrt.Tie as tie
 
-returns : tie.Need_returns
+returns : tie.Need-returns
 returns c =
-    let at_give_root = c.before.before in
-    let at_sqrt = at_give_root.before.before in
-    record { reply = sqrt_reply at_sqrt.sqrt.result; root = at_sqrt.sqrt.ensures; answered = at_give_root.give_root.ensures }
+    let at-give-root = c.before.before in
+    let at-sqrt = at-give-root.before.before in
+    record { reply = sqrt_reply at-sqrt.sqrt.result; root = at-sqrt.sqrt.ensures; answered = at-give-root.give-root.ensures }
 
 pub bf_sqrt_spec : {M : Type 1} → statement M
 bf_sqrt_spec = tie.close (tie.spec (λ c κs. tt) (λ c κs. tt) (λ c. search rules) returns)

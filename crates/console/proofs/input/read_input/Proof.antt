@@ -14,28 +14,28 @@ invariant_loop buf₀ done₀ buf done = (done ≤ length buf) × (length buf �
 abbrev decreases_loop : tie.decreases_loop
 decreases_loop buf₀ done₀ buf done = length buf₀ - done
 
-returns_2 : tie.Need_returns_2 invariant_loop decreases_loop
+returns_2 : tie.Need-returns-2 invariant_loop decreases_loop
 returns_2 c =
-    let at_buf = c.before.before.before.before.before in
-    let at_loop = at_buf.before.before.before.before in
-    omega (arith, at_buf.buf.given.1, at_loop.loop.invariant.0)
+    let at-buf = c.before.before.before.before.before in
+    let at-loop = at-buf.before.before.before.before in
+    omega (arith, at-buf.buf.given.1, at-loop.loop.invariant.0)
 
 -- what was read lies within the buffer
 read_fits : (c : tie.Else1 invariant_loop decreases_loop) →
-    let at_step = c.before.before in
-    let at_loop = at_step.before.before.before.before.before.before.before in
-    at_loop.loop.done + at_step.step.given.0.0 ≤ length at_loop.loop.buf
+    let at-step = c.before.before in
+    let at-loop = at-step.before.before.before.before.before.before.before in
+    at-loop.loop.done + at-step.step.given.0.0 ≤ length at-loop.loop.buf
 read_fits c =
-    let at_step = c.before.before in
-    let at_read = at_step.before.before.before.before in
+    let at-step = c.before.before in
+    let at_read = at-step.before.before.before.before in
     let l = at_read.before.before.before.loop in
-    behind at_step.step.given.0.0 l.done (length l.buf - l.done) l.buf l.invariant.0 (read_within at_step.step.given.1 at_read.read_Some.ensures)
+    behind at-step.step.given.0.0 l.done (length l.buf - l.done) l.buf l.invariant.0 (read_within at-step.step.given.1 at_read.read_Some.ensures)
 
-loop_again : tie.Need_loop_preserved invariant_loop decreases_loop
+loop_again : tie.Need-loop-preserved invariant_loop decreases_loop
 loop_again c =
-    let at_buf = c.before.before.before.before.before in
-    let kept = at_buf.buf.given.1 in
-    (omega (arith, kept, read_fits c), kept ∙ at_buf.before.before.before.before.loop.invariant.1)
+    let at-buf = c.before.before.before.before.before in
+    let kept = at-buf.buf.given.1 in
+    (omega (arith, kept, read_fits c), kept ∙ at-buf.before.before.before.before.loop.invariant.1)
 
 pub read_input_spec : {M : Type 1} → statement M
 read_input_spec =

@@ -3,7 +3,7 @@ use borrow.Author.Rules.{rules}
 use Rattle.dxf.proofs.entity.ends.Statement.{statement}
 use Rattle.dxf.proofs.entity.ends.Tie as tie
 
-returns : tie.Need_returns
+returns : tie.Need-returns
 returns c = simp c.before.if1.true
 
 pub ends_spec : {M : Type 1} → statement M

@@ -14,43 +14,43 @@ invariant_loop bytes out₀ i₀ out i = Looking bytes i
 abbrev decreases_loop : tie.decreases_loop
 decreases_loop bytes out₀ i₀ out i = length bytes - i
 
-body_requires : tie.Need_body_requires invariant_loop decreases_loop
+body_requires : tie.Need-body-requires invariant_loop decreases_loop
 body_requires c κs =
-    let at_found = c.before.before in
-    let at_seek = at_found.before.before in
-    let l = at_seek.before.loop in
-    let b = at_seek.before.before.before.args.bytes.now in
-    found_within b l.i l.invariant at_seek.seek_at.result at_seek.seek_at.ensures _ at_found.at.given.1
+    let at-found = c.before.before in
+    let at-seek = at-found.before.before in
+    let l = at-seek.before.loop in
+    let b = at-seek.before.before.before.args.bytes.now in
+    found_within b l.i l.invariant at-seek.seek-at.result at-seek.seek-at.ensures _ at-found.at.given.1
 
-returns : tie.Need_returns invariant_loop decreases_loop
+returns : tie.Need-returns invariant_loop decreases_loop
 returns c =
-    let at_found = c.before.before.before in
-    let at_seek = at_found.before.before in
-    let l = at_seek.before.loop in
-    let b = at_seek.before.before.before.args.bytes.now in
-    read_found b l.i l.invariant at_seek.seek_at.result at_seek.seek_at.ensures _ _ _ at_found.at.given.1 c.body.ensures
+    let at-found = c.before.before.before in
+    let at-seek = at-found.before.before in
+    let l = at-seek.before.loop in
+    let b = at-seek.before.before.before.args.bytes.now in
+    read_found b l.i l.invariant at-seek.seek-at.result at-seek.seek-at.ensures _ _ _ at-found.at.given.1 c.body.ensures
 
-returns_2 : tie.Need_returns_2 invariant_loop decreases_loop
+returns_2 : tie.Need-returns-2 invariant_loop decreases_loop
 returns_2 c =
-    let at_seek = c.before.before in
-    let l = at_seek.before.loop in
-    let b = at_seek.before.before.before.args.bytes.now in
-    read_none b l.i l.invariant at_seek.seek_at.result at_seek.seek_at.ensures _ c.enum_told.given.1
+    let at-seek = c.before.before in
+    let l = at-seek.before.loop in
+    let b = at-seek.before.before.before.args.bytes.now in
+    read_none b l.i l.invariant at-seek.seek-at.result at-seek.seek-at.ensures _ c.enum_told.given.1
 
-loop_less : tie.Need_loop_smaller invariant_loop decreases_loop
+loop_less : tie.Need-loop-smaller invariant_loop decreases_loop
 loop_less c =
-    let at_seek = c.before.before.before in
-    let l = at_seek.before.loop in
-    let b = at_seek.before.before.before.args.bytes.now in
-    let g = look_on b l.i l.invariant at_seek.seek_at.result at_seek.seek_at.ensures _ c.before.next.given.1 in
+    let at-seek = c.before.before.before in
+    let l = at-seek.before.loop in
+    let b = at-seek.before.before.before.args.bytes.now in
+    let g = look_on b l.i l.invariant at-seek.seek-at.result at-seek.seek-at.ensures _ c.before.next.given.1 in
     omega (arith, g.0.within, g.1)
 
-loop_again : tie.Need_loop_preserved invariant_loop decreases_loop
+loop_again : tie.Need-loop-preserved invariant_loop decreases_loop
 loop_again c =
-    let at_seek = c.before.before.before in
-    let l = at_seek.before.loop in
-    let b = at_seek.before.before.before.args.bytes.now in
-    (look_on b l.i l.invariant at_seek.seek_at.result at_seek.seek_at.ensures _ c.before.next.given.1).0
+    let at-seek = c.before.before.before in
+    let l = at-seek.before.loop in
+    let b = at-seek.before.before.before.args.bytes.now in
+    (look_on b l.i l.invariant at-seek.seek-at.result at-seek.seek-at.ensures _ c.before.next.given.1).0
 
 pub read_spec : {M : Type 1} → statement M
 read_spec =

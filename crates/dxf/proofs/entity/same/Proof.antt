@@ -14,26 +14,26 @@ invariant_loop a b i₀ i = (i ≤ length a) × (length a ≡ length b) × (enti
 abbrev decreases_loop : tie.decreases_loop
 decreases_loop a b i₀ i = length a - i
 
-returns : tie.Need_returns invariant_loop decreases_loop
+returns : tie.Need-returns invariant_loop decreases_loop
 returns c = let o = c.before.args in sym (same_long o.a.now o.b.now c.if1.true)
 
-returns_2 : tie.Need_returns_2 invariant_loop decreases_loop
+returns_2 : tie.Need-returns-2 invariant_loop decreases_loop
 returns_2 c =
     let t = c.before.before.before in
     let l = t.before.loop in
     let o = t.before.before.before.args in
     let h : l.i < length o.b.now = omega arith in
-    sym (sym l.invariant.2 ∙ not_here o.a.now o.b.now l.i t.loop_test.true h c.if2.true)
+    sym (sym l.invariant.2 ∙ not_here o.a.now o.b.now l.i t.loop-test.true h c.if2.true)
 
-loop_again : tie.Need_loop_preserved invariant_loop decreases_loop
+loop_again : tie.Need-loop-preserved invariant_loop decreases_loop
 loop_again c =
     let t = c.before.before.before in
     let l = t.before.loop in
     let o = t.before.before.before.args in
     let h : l.i < length o.b.now = omega arith in
-    (omega arith, l.invariant.1, sym (same_here o.a.now o.b.now l.i t.loop_test.true h c.if2.false) ∙ l.invariant.2)
+    (omega arith, l.invariant.1, sym (same_here o.a.now o.b.now l.i t.loop-test.true h c.if2.false) ∙ l.invariant.2)
 
-returns_3 : tie.Need_returns_3 invariant_loop decreases_loop
+returns_3 : tie.Need-returns-3 invariant_loop decreases_loop
 returns_3 c =
     let l = c.before.loop in
     let o = c.before.before.before.args in

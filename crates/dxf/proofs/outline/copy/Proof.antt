@@ -14,10 +14,10 @@ invariant_loop numbers out₀ k₀ out k = Copying numbers out₀ out k
 abbrev decreases_loop : tie.decreases_loop
 decreases_loop numbers out₀ k₀ out k = length numbers - k
 
-loop_again : tie.Need_loop_preserved invariant_loop decreases_loop
+loop_again : tie.Need-loop-preserved invariant_loop decreases_loop
 loop_again c = copy_more _ _ nan c.before.before.loop.invariant (omega arith)
 
-returns : tie.Need_returns invariant_loop decreases_loop
+returns : tie.Need-returns invariant_loop decreases_loop
 returns c = copy_all _ _ c.before.loop.invariant (omega arith)
 
 pub copy_spec : {M : Type 1} → statement M

@@ -5,23 +5,23 @@ use Rattle.dxf.proofs.Outlines.{dxf_bad, dxf_good}
 use Rattle.dxf.proofs.outline.dxf_outline.Statement.{statement}
 use Rattle.dxf.proofs.outline.dxf_outline.Tie as tie
 
-returns : tie.Need_returns
+returns : tie.Need-returns
 unfolding outline_to outline_buffer
 returns c =
-    let at_finish = c.before.before in
-    let at_given = at_finish.before.before.before.before in
-    let at_read = at_given.before.before in
+    let at-finish = c.before.before in
+    let at-given = at-finish.before.before.before.before in
+    let at_read = at-given.before.before in
     let o = at_read.before.before.before.before.args in
-    let k = at_given.s.given in
-    dxf_good o.text.now at_read.read.result _ o.out.now at_read.read.ensures k.0.0 at_finish.finish_read.result _ k.1 at_finish.finish_read.ensures
+    let k = at-given.s.given in
+    dxf_good o.text.now at_read.read.result _ o.out.now at_read.read.ensures k.0.0 at-finish.finish-read.result _ k.1 at-finish.finish-read.ensures
 
-returns_2 : tie.Need_returns_2
+returns_2 : tie.Need-returns-2
 unfolding outline_to outline_buffer
 returns_2 c =
-    let at_refused = c.before in
-    let at_read = at_refused.before.before in
+    let at-refused = c.before in
+    let at_read = at-refused.before.before in
     let o = at_read.before.before.before.before.args in
-    let k = at_refused.k.given in
+    let k = at-refused.k.given in
     dxf_bad o.text.now at_read.read.result _ o.out.now at_read.read.ensures k.0.0 k.1
 
 pub dxf_outline_spec : {M : Type 1} → statement M

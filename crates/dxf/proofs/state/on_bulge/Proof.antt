@@ -7,17 +7,17 @@ use Rattle.dxf.proofs.States.{bulge_none, bulge_bad, bulge_good}
 use Rattle.dxf.proofs.state.on_bulge.Statement.{statement}
 use Rattle.dxf.proofs.state.on_bulge.Tie as tie
 
-returns : tie.Need_returns
+returns : tie.Need-returns
 returns c m h = let o = c.before.before.args in bulge_none o.s o.out.now m h o.text.now o.out.now c.if1.true
 
-returns_2 : tie.Need_returns_2
+returns_2 : tie.Need-returns-2
 returns_2 c m h =
     let o = c.before.before.before.before.before.before.before.before.args in
     let y = c.before.before.before in
     let k = y.z.given in
-    bulge_good o.s o.out.now m h o.text.now k.0.0 c.put_bulge.new.0 (omega arith) (sym (ap number_reply k.1) ∙ y.before.before.number.ensures.0) c.put_bulge.ensures
+    bulge_good o.s o.out.now m h o.text.now k.0.0 c.put-bulge.new.0 (omega arith) (sym (ap number_reply k.1) ∙ y.before.before.number.ensures.0) c.put-bulge.ensures
 
-returns_3 : tie.Need_returns_3
+returns_3 : tie.Need-returns-3
 returns_3 c m h =
     let o = c.before.before.before.before.before.before.args in
     let k = c.before.k.given in

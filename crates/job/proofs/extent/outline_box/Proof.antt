@@ -1,7 +1,7 @@
 -- After k turns the box is that of the segments 0 to k.
 use mathlib.Core.Path.{◌≡◌, ap, ap₂, sym, ◌∙◌}
 use Prim.Native.Nat.{◌-◌, ◌≤◌}
-use native.Mathlib.Numerals.{add_one}
+use native.Mathlib.Numerals.{add-one}
 use native.Mathlib.Omega.{arith}
 use Rattle.job.specs.Outline.{vertex_in_of}
 use Rattle.job.specs.Extent.{wider, box_at_of, box_to}
@@ -14,21 +14,21 @@ invariant_loop bytes n last b₀ k₀ b k = (k ≤ last) × (b ≡ box_to (verte
 abbrev decreases_loop : tie.decreases_loop
 decreases_loop bytes n last b₀ k₀ b k = last - k
 
-loop_holds : tie.Need_loop_init invariant_loop decreases_loop
+loop_holds : tie.Need-loop-init invariant_loop decreases_loop
 unfolding box_to
-loop_holds c = (omega arith, c.box_at.ensures)
+loop_holds c = (omega arith, c.box-at.ensures)
 
-loop_again : tie.Need_loop_preserved invariant_loop decreases_loop
+loop_again : tie.Need-loop-preserved invariant_loop decreases_loop
 unfolding box_to
 loop_again c =
     let a = c.before.before.before.before.before.before.args in
     let l = c.before.before.before.loop in (
       omega arith,
-      c.wider.ensures ∙ ap₂ wider l.invariant.1 (c.before.box_at2.ensures ∙ ap (box_at_of (vertex_in_of a.bytes.now) a.n) (add_one l.k))
-          ∙ ap (box_to (vertex_in_of a.bytes.now) a.n) (sym (add_one l.k)),
+      c.wider.ensures ∙ ap₂ wider l.invariant.1 (c.before.box-at2.ensures ∙ ap (box_at_of (vertex_in_of a.bytes.now) a.n) (add-one l.k))
+          ∙ ap (box_to (vertex_in_of a.bytes.now) a.n) (sym (add-one l.k)),
     )
 
-returns : tie.Need_returns invariant_loop decreases_loop
+returns : tie.Need-returns invariant_loop decreases_loop
 returns c =
     let a = c.before.before.before.before.args in
     let e : c.before.loop.k ≡ a.last = omega arith in

@@ -2,7 +2,7 @@
 use Rattle.job.proofs.extent.wider.Statement.{statement}
 use Rattle.job.proofs.extent.wider.Tie as tie
 
-returns : tie.Need_returns
+returns : tie.Need-returns
 returns c =
     let p = c.before.before in
     simp (p.before.lesser.ensures, p.lesser2.ensures, c.before.greater.ensures, c.greater2.ensures)

@@ -5,14 +5,14 @@ use Rattle.job.specs.Lines.{box_words}
 use Rattle.job.proofs.line.put_box.Statement.{statement}
 use Rattle.job.proofs.line.put_box.Tie as tie
 
-returns : tie.Need_returns
+returns : tie.Need-returns
 unfolding box_words
 returns c =
     let at_end = c.before.before in
-    let at_greatest = at_end.before.before.before.before in
-    let at_least_lem = at_greatest.before.before.before.before in
-    let at_word = at_least_lem.before.before.before.before in
-    then (three pieces at_word.put_text.ensures.piece at_least_lem.put_floats.ensures at_greatest.put_floats2.ensures) at_end.put_box_end.ensures.piece
+    let at-greatest = at_end.before.before.before.before in
+    let at_least_lem = at-greatest.before.before.before.before in
+    let at-word = at_least_lem.before.before.before.before in
+    then (three pieces at-word.put-text.ensures.piece at_least_lem.put-floats.ensures at-greatest.put-floats2.ensures) at_end.put-box-end.ensures.piece
 
 pub put_box_spec : {M : Type 1} → statement M
 put_box_spec =

@@ -6,19 +6,19 @@ use Rattle.text.proofs.Writing.{put_named}
 use Rattle.job.proofs.line.put_either.Statement.{statement}
 use Rattle.job.proofs.line.put_either.Tie as tie
 
-returns : tie.Need_returns
+returns : tie.Need-returns
 returns c =
-    let at_text = c.before.before in
-    let at_flag = at_text.before.before in
+    let at-text = c.before.before in
+    let at_flag = at-text.before.before in
     let a = at_flag.before.before.before.before.args in
-    put_named (ap (λ (t : Bool). cond t a.set.now a.clear.now) (sym at_flag.if1.true)) at_text.put_text.ensures
+    put_named (ap (λ (t : Bool). cond t a.set.now a.clear.now) (sym at_flag.if1.true)) at-text.put-text.ensures
 
-returns_2 : tie.Need_returns_2
+returns_2 : tie.Need-returns-2
 returns_2 c =
-    let at_text = c.before.before in
-    let at_flag = at_text.before.before in
+    let at-text = c.before.before in
+    let at_flag = at-text.before.before in
     let a = at_flag.before.before.before.before.args in
-    put_named (ap (λ (t : Bool). cond t a.set.now a.clear.now) (sym at_flag.if1.false)) at_text.put_text2.ensures
+    put_named (ap (λ (t : Bool). cond t a.set.now a.clear.now) (sym at_flag.if1.false)) at-text.put-text2.ensures
 
 pub put_either_spec : {M : Type 1} → statement M
 put_either_spec =

@@ -8,11 +8,11 @@ use Rattle.text.proofs.Writing.{put_named}
 use Rattle.job.proofs.line.put_mark.Statement.{statement}
 use Rattle.job.proofs.line.put_mark.Tie as tie
 
-returns : tie.Need_returns
-returns c = let at_text = c.before.before in put_named (ap (λ (m : Mark). mark_word (mark_case m)) (sym at_text.before.before.before.enum_told.given.1)) at_text.put_text.ensures
+returns : tie.Need-returns
+returns c = let at-text = c.before.before in put_named (ap (λ (m : Mark). mark_word (mark_case m)) (sym at-text.before.before.before.enum_told.given.1)) at-text.put-text.ensures
 
-returns_2 : tie.Need_returns_2
-returns_2 c = let at_text = c.before.before in put_named (ap (λ (m : Mark). mark_word (mark_case m)) (sym at_text.before.before.before.enum_told2.given.1)) at_text.put_text2.ensures
+returns_2 : tie.Need-returns-2
+returns_2 c = let at-text = c.before.before in put_named (ap (λ (m : Mark). mark_word (mark_case m)) (sym at-text.before.before.before.enum-told2.given.1)) at-text.put-text2.ensures
 
 pub put_mark_spec : {M : Type 1} → statement M
 put_mark_spec =

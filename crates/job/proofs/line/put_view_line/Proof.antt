@@ -5,15 +5,15 @@ use Rattle.job.specs.Lines.{number_field, view_line}
 use Rattle.job.proofs.line.put_view_line.Statement.{statement}
 use Rattle.job.proofs.line.put_view_line.Tie as tie
 
-returns : tie.Need_returns
+returns : tie.Need-returns
 unfolding view_line number_field
 returns c =
-    let at_number = c.before.before in
-    let at_count = at_number.before.before.before.before.before in
+    let at-number = c.before.before in
+    let at_count = at-number.before.before.before.before.before in
     let at_mark = at_count.before.before.before.before in
-    let at_verdict = at_mark.before.before.before.before in
-    let at_head = at_verdict.before.before.before.before in
-    five pieces at_head.put_head.ensures at_verdict.put_decimal.ensures.piece at_mark.put_mark.ensures.piece at_count.put_decimal2.ensures.piece at_number.put_worded.ensures
+    let at-verdict = at_mark.before.before.before.before in
+    let at_head = at-verdict.before.before.before.before in
+    five pieces at_head.put-head.ensures at-verdict.put-decimal.ensures.piece at_mark.put-mark.ensures.piece at_count.put-decimal2.ensures.piece at-number.put-worded.ensures
 
 pub put_view_line_spec : {M : Type 1} → statement M
 put_view_line_spec =

@@ -3,8 +3,8 @@ use mathlib.Core.Path.{◌≡◌, refl, sym, ap, ◌∙◌}
 use mathlib.Core.List.{List, ◌++◌}
 use Prim.Native.Nat.{ℕ, ◌+◌, ◌*◌, ◌-◌, ◌≤◌, ◌<◌}
 use native.Mathlib.Omega.{arith}
-use native.Mathlib.Numerals.{add_one}
-use lib.ListN.{length, drop, set, length_set}
+use native.Mathlib.Numerals.{add-one}
+use lib.ListN.{length, drop, set, length-set}
 use lib.Ieee.{Float}
 use Rattle.lists.specs.Plain.{tab}
 use Rattle.record.specs.Bytes.{float_at}
@@ -20,31 +20,31 @@ invariant_loop bytes n out₀ i₀ out i = (i ≤ n) × (length out ≡ length o
 abbrev decreases_loop : tie.decreases_loop
 decreases_loop bytes n out₀ i₀ out i = n - i
 
-loop_holds : tie.Need_loop_init invariant_loop decreases_loop
+loop_holds : tie.Need-loop-init invariant_loop decreases_loop
 unfolding numbers_in tab
 loop_holds c = (omega arith, refl, refl)
 
-loop_again : tie.Need_loop_preserved invariant_loop decreases_loop
+loop_again : tie.Need-loop-preserved invariant_loop decreases_loop
 unfolding numbers_in
 loop_again c =
-    let at_loop = c.before.before in
-    let l = at_loop.loop in
-    let a = at_loop.before.before.before.args in
+    let at-loop = c.before.before in
+    let l = at-loop.loop in
+    let a = at-loop.before.before.before.args in
     let b = a.bytes.now in
     let h : l.i < length a.out.now = omega arith in (
       omega arith,
-      simp length_set l.invariant.1,
-      ap (λ (o : List Float). set o l.i c.Float_at.result) l.invariant.2
-          ∙ fill_next (λ j. float_at b (header_size + 8 * j)) a.out.now l.i c.Float_at.result h c.Float_at.ensures
-          ∙ ap (λ (m : ℕ). tab (λ j. float_at b (header_size + 8 * j)) m ++ drop m a.out.now) (sym (add_one l.i)),
+      simp length-set l.invariant.1,
+      ap (λ (o : List Float). set o l.i c.Float-at.result) l.invariant.2
+          ∙ fill_next (λ j. float_at b (header_size + 8 * j)) a.out.now l.i c.Float-at.result h c.Float-at.ensures
+          ∙ ap (λ (m : ℕ). tab (λ j. float_at b (header_size + 8 * j)) m ++ drop m a.out.now) (sym (add-one l.i)),
     )
 
-returns : tie.Need_returns invariant_loop decreases_loop
+returns : tie.Need-returns invariant_loop decreases_loop
 returns c =
-    let at_loop = c.before in
-    let a = at_loop.before.before.before.args in
-    let e : at_loop.loop.i ≡ a.n = omega arith in
-    at_loop.loop.invariant.2 ∙ ap (λ (m : ℕ). numbers_in a.bytes.now m ++ drop m a.out.now) e
+    let at-loop = c.before in
+    let a = at-loop.before.before.before.args in
+    let e : at-loop.loop.i ≡ a.n = omega arith in
+    at-loop.loop.invariant.2 ∙ ap (λ (m : ℕ). numbers_in a.bytes.now m ++ drop m a.out.now) e
 
 pub decode_spec : {M : Type 1} → statement M
 decode_spec =

@@ -18,31 +18,31 @@ invariant_loop bytes n k₀ k = (k ≤ n) × (all (λ j. vertex_ok double (verte
 abbrev decreases_loop : tie.decreases_loop
 decreases_loop bytes n k₀ k = n - k
 
-loop_holds : tie.Need_loop_init invariant_loop decreases_loop
+loop_holds : tie.Need-loop-init invariant_loop decreases_loop
 unfolding all
 loop_holds c = (omega arith, refl)
 
-fails : tie.Need_returns invariant_loop decreases_loop
+fails : tie.Need-returns invariant_loop decreases_loop
 fails c =
-    let at_range = c.before in
-    let at_vertex = at_range.before in
-    let at_test = at_vertex.before in
-    sym (all_not _ _ at_test.before.loop.k at_test.loop_test.true
-    (failed (at_range.vertex_in_range.ensures ∙ ap (vertex_ok double) at_vertex.vertex_in.ensures) c.if1.true))
+    let at-range = c.before in
+    let at-vertex = at-range.before in
+    let at_test = at-vertex.before in
+    sym (all_not _ _ at_test.before.loop.k at_test.loop-test.true
+    (failed (at-range.vertex-in-range.ensures ∙ ap (vertex_ok double) at-vertex.vertex_in.ensures) c.if1.true))
 
-loop_again : tie.Need_loop_preserved invariant_loop decreases_loop
+loop_again : tie.Need-loop-preserved invariant_loop decreases_loop
 loop_again c =
-    let at_range = c.before in
-    let at_vertex = at_range.before in
-    let l = at_vertex.before.before.loop in
-    (omega arith, all_more _ l.k l.invariant.1 (passed (at_range.vertex_in_range.ensures ∙ ap (vertex_ok double) at_vertex.vertex_in.ensures) c.if1.false))
+    let at-range = c.before in
+    let at-vertex = at-range.before in
+    let l = at-vertex.before.before.loop in
+    (omega arith, all_more _ l.k l.invariant.1 (passed (at-range.vertex-in-range.ensures ∙ ap (vertex_ok double) at-vertex.vertex_in.ensures) c.if1.false))
 
-holds : tie.Need_returns_2 invariant_loop decreases_loop
+holds : tie.Need-returns-2 invariant_loop decreases_loop
 holds c =
-    let at_loop = c.before in
-    let a = at_loop.before.before.args in
-    let e : at_loop.loop.k ≡ a.n = omega arith in
-    sym at_loop.loop.invariant.1 ∙ ap (all (λ j. vertex_ok double (vertex_in_of a.bytes.now j))) e
+    let at-loop = c.before in
+    let a = at-loop.before.before.args in
+    let e : at-loop.loop.k ≡ a.n = omega arith in
+    sym at-loop.loop.invariant.1 ∙ ap (all (λ j. vertex_ok double (vertex_in_of a.bytes.now j))) e
 
 pub vertices_are_sound_spec : {M : Type 1} → statement M
 vertices_are_sound_spec =

@@ -17,21 +17,21 @@ use Rattle.job.proofs.Parting.{named_part}
 use Rattle.job.proofs.part.put_cut.Statement.{statement}
 use Rattle.job.proofs.part.put_cut.Tie as tie
 
-returns : tie.Need_returns
+returns : tie.Need-returns
 unfolding mark_text
 returns c =
     let at_rows = c.before.before in
-    let at_line = at_rows.before.before.before.before.before in
-    let at_list = at_line.before.before.before.before.before in
-    let o = at_list.before.before.before.before.before in
+    let at-line = at_rows.before.before.before.before.before in
+    let at-list = at-line.before.before.before.before.before in
+    let o = at-list.before.before.before.before.before in
     let a = o.args in
     let s = a.outline.now in
     let l = a.list.now in
     let n = vertices a.d in
-    let listed = at_list.list.ensures.1 ∙ list_written s a.d l o.requires.2 in
+    let listed = at-list.list.ensures.1 ∙ list_written s a.d l o.requires.2 in
     let t = view_line a.k a.number cut n a.d.cut_number in (
       named_part (ap (λ (u : List Float). t ++ rows u n) listed ∙ ap (λ (u : List ℕ). t ++ u) (list_rows s a.d l))
-          (record { piece = then at_line.put_view_line.ensures at_rows.put_rows.ensures; short = cut_length a.k a.number n _ _ o.requires.0 o.requires.1 (omega (arith, o.requires.2.few)) }),
+          (record { piece = then at-line.put-view-line.ensures at_rows.put-rows.ensures; short = cut_length a.k a.number n _ _ o.requires.0 o.requires.1 (omega (arith, o.requires.2.few)) }),
       listed,
     )
 

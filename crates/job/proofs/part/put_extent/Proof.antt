@@ -16,57 +16,57 @@ use Rattle.job.proofs.Parting.{named_part, empty_part, no_box, some_box}
 use Rattle.job.proofs.part.put_extent.Statement.{statement}
 use Rattle.job.proofs.part.put_extent.Tie as tie
 
-returns : tie.Need_returns
+returns : tie.Need-returns
 unfolding box_part
 returns c =
-    let at_checked = c.before in
-    let o = at_checked.before.before.before in
-    let e = failed (at_checked.vertices_are_sound.ensures ∙ vertices_by _ o.args.h o.requires) c.if1.true in
+    let at-checked = c.before in
+    let o = at-checked.before.before.before in
+    let e = failed (at-checked.vertices-are-sound.ensures ∙ vertices_by _ o.args.h o.requires) c.if1.true in
     named_part (simp e) (empty_part _)
 
-returns_2 : tie.Need_returns_2
+returns_2 : tie.Need-returns-2
 unfolding box_part
 returns_2 c =
     let at_none = c.before.before in
-    let at_retired = at_none.before in
-    let at_few = at_retired.before.before in
-    let at_sound = at_few.before in
-    let at_checked = at_sound.before in
-    let o = at_checked.before.before.before in
+    let at-retired = at_none.before in
+    let at-few = at-retired.before.before in
+    let at-sound = at-few.before in
+    let at-checked = at-sound.before in
+    let o = at-checked.before.before.before in
     let h = o.args.h in
-    let e = passed (at_checked.vertices_are_sound.ensures ∙ vertices_by _ h o.requires) at_sound.if1.false in
-    let ended = ap (λ (t : Bool). no_box_words ++ box_end t) at_retired.is_retired.ensures in
-    let length = no_box_length at_retired.is_retired.result in
-    named_part (ended ∙ simp e (no_box _ h o.requires at_few.if2.true)) (record { piece = at_none.put_no_box.ensures; short = omega arith })
+    let e = passed (at-checked.vertices-are-sound.ensures ∙ vertices_by _ h o.requires) at-sound.if1.false in
+    let ended = ap (λ (t : Bool). no_box_words ++ box_end t) at-retired.is-retired.ensures in
+    let length = no_box_length at-retired.is-retired.result in
+    named_part (ended ∙ simp e (no_box _ h o.requires at-few.if2.true)) (record { piece = at_none.put-no-box.ensures; short = omega arith })
 
-outline_box_requires : tie.Need_outline_box_requires
+outline_box_requires : tie.Need-outline-box-requires
 outline_box_requires c κs =
     let at_last = c.before in
-    let at_sound = at_last.before.before.before in
-    let at_checked = at_sound.before in
-    let o = at_checked.before.before.before in
-    (record { room = omega (arith, o.requires.size); each = passed at_checked.vertices_are_sound.ensures at_sound.if1.false }, at_last.last_segment.ensures.1)
+    let at-sound = at_last.before.before.before in
+    let at-checked = at-sound.before in
+    let o = at-checked.before.before.before in
+    (record { room = omega (arith, o.requires.size); each = passed at-checked.vertices-are-sound.ensures at-sound.if1.false }, at_last.last-segment.ensures.1)
 
-returns_3 : tie.Need_returns_3
+returns_3 : tie.Need-returns-3
 unfolding box_part
 returns_3 c =
-    let at_box = c.before.before in
-    let at_retired = at_box.before in
-    let at_outline_box = at_retired.before in
-    let at_last = at_outline_box.before.before in
-    let at_closed = at_last.before in
-    let at_many = at_closed.before in
-    let at_sound = at_many.before in
-    let at_checked = at_sound.before in
-    let o = at_checked.before.before.before in
+    let at-box = c.before.before in
+    let at-retired = at-box.before in
+    let at-outline-box = at-retired.before in
+    let at_last = at-outline-box.before.before in
+    let at-closed = at_last.before in
+    let at-many = at-closed.before in
+    let at-sound = at-many.before in
+    let at-checked = at-sound.before in
+    let o = at-checked.before.before.before in
     let h = o.args.h in
     let src = vertex_in_of o.args.bytes.now in
-    let e = passed (at_checked.vertices_are_sound.ensures ∙ vertices_by _ h o.requires) at_sound.if1.false in
-    let last = at_last.last_segment.ensures.0 ∙ ap (λ (t : Bool). last_segment_of t h.vertices) at_closed.is_closed.ensures in
-    let is = at_outline_box.outline_box.ensures ∙ ap (box_to src h.vertices) last in
-    let ended = ap₂ (λ (b : Bounds) (t : Bool). box_words b ++ box_end t) is at_retired.is_retired2.ensures in
-    let length = box_length at_outline_box.outline_box.result at_retired.is_retired2.result in
-    named_part (ended ∙ simp e (some_box _ h o.requires at_many.if2.false)) (record { piece = at_box.put_box.ensures; short = omega arith })
+    let e = passed (at-checked.vertices-are-sound.ensures ∙ vertices_by _ h o.requires) at-sound.if1.false in
+    let last = at_last.last-segment.ensures.0 ∙ ap (λ (t : Bool). last_segment_of t h.vertices) at-closed.is-closed.ensures in
+    let is = at-outline-box.outline-box.ensures ∙ ap (box_to src h.vertices) last in
+    let ended = ap₂ (λ (b : Bounds) (t : Bool). box_words b ++ box_end t) is at-retired.is-retired2.ensures in
+    let length = box_length at-outline-box.outline-box.result at-retired.is-retired2.result in
+    named_part (ended ∙ simp e (some_box _ h o.requires at-many.if2.false)) (record { piece = at-box.put-box.ensures; short = omega arith })
 
 pub put_extent_spec : {M : Type 1} → statement M
 put_extent_spec =

@@ -10,7 +10,7 @@ use Rattle.job.proofs.Parting.{named_part}
 use Rattle.job.proofs.part.put_marked.Statement.{statement}
 use Rattle.job.proofs.part.put_marked.Tie as tie
 
-put_cut_requires : tie.Need_put_cut_requires
+put_cut_requires : tie.Need-put-cut-requires
 put_cut_requires c κs =
     let at_cut = c.before.before in
     let at_mark = at_cut.before.before in
@@ -19,34 +19,34 @@ put_cut_requires c κs =
     let q = sym (ap mark_case at_cut.enum_told.given.1) ∙ at_mark.mark.ensures in
     (o.requires.0, omega arith, subst (Lists a.outline.now a.d) (sym o.requires.1) (cut_lists a.closed a.outline.now a.d (verdict_of a.verdict) o.requires.2 q))
 
-returns : tie.Need_returns
+returns : tie.Need-returns
 unfolding mark_buffer
 returns c =
-    let at_put = c.before.before.before.before in
-    let at_cut = at_put.before.before.before in
+    let at-put = c.before.before.before.before in
+    let at_cut = at-put.before.before.before in
     let at_mark = at_cut.before.before in
-    let at_number = at_mark.before in
-    let o = at_number.before.before.before.before in
+    let at-number = at_mark.before in
+    let o = at-number.before.before.before.before in
     let a = o.args in
     let e = o.requires.2 in
     let q = sym (ap mark_case at_cut.enum_told.given.1) ∙ at_mark.mark.ensures in (
-      named_part (given_text a.closed a.outline.now a.d a.k a.list.now _ _ cut e at_number.number.ensures q) at_put.put_cut.ensures.0,
-      at_put.put_cut.ensures.1 ∙ given_buffer a.closed a.outline.now a.d a.k a.list.now _ cut e q,
+      named_part (given_text a.closed a.outline.now a.d a.k a.list.now _ _ cut e at-number.number.ensures q) at-put.put-cut.ensures.0,
+      at-put.put-cut.ensures.1 ∙ given_buffer a.closed a.outline.now a.d a.k a.list.now _ cut e q,
     )
 
-returns_2 : tie.Need_returns_2
+returns_2 : tie.Need-returns-2
 unfolding mark_text mark_buffer
 returns_2 c =
-    let at_line = c.before.before in
-    let at_hold = at_line.before.before in
-    let at_mark = at_hold.before.before in
-    let at_number = at_mark.before in
-    let o = at_number.before.before.before.before in
+    let at-line = c.before.before in
+    let at-hold = at-line.before.before in
+    let at_mark = at-hold.before.before in
+    let at-number = at_mark.before in
+    let o = at-number.before.before.before.before in
     let a = o.args in
     let e = o.requires.2 in
-    let q = sym (ap mark_case at_hold.enum_told2.given.1) ∙ at_mark.mark.ensures in
-    let length = view_length a.k at_number.number.result hold 0 a.d.cut_number o.requires.0 (omega arith) (omega arith) in (
-      named_part (given_text a.closed a.outline.now a.d a.k a.list.now _ _ hold e at_number.number.ensures q) (record { piece = at_line.put_view_line.ensures; short = omega arith }),
+    let q = sym (ap mark_case at-hold.enum-told2.given.1) ∙ at_mark.mark.ensures in
+    let length = view_length a.k at-number.number.result hold 0 a.d.cut_number o.requires.0 (omega arith) (omega arith) in (
+      named_part (given_text a.closed a.outline.now a.d a.k a.list.now _ _ hold e at-number.number.ensures q) (record { piece = at-line.put-view-line.ensures; short = omega arith }),
       given_buffer a.closed a.outline.now a.d a.k a.list.now _ hold e q,
     )
 

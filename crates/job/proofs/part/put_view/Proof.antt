@@ -9,22 +9,22 @@ use Rattle.job.proofs.Parting.{named_part}
 use Rattle.job.proofs.part.put_view.Statement.{statement}
 use Rattle.job.proofs.part.put_view.Tie as tie
 
-put_marked_requires : tie.Need_put_marked_requires
+put_marked_requires : tie.Need-put-marked-requires
 put_marked_requires c κs =
-    let at_answer = c.before.before.before in
-    let at_validated = at_answer.before.before in
-    (at_validated.before.before.before.before.requires.0, omega arith, verdict_told double double.line _ _ at_validated.validate_for_source.ensures at_answer.answer2.given.1)
+    let at-answer = c.before.before.before in
+    let at-validated = at-answer.before.before in
+    (at-validated.before.before.before.before.requires.0, omega arith, verdict_told double double.line _ _ at-validated.validate-for-source.ensures at-answer.answer2.given.1)
 
-returns : tie.Need_returns
+returns : tie.Need-returns
 returns c =
-    let at_line = c.before.before in
-    let at_answer = at_line.before.before.before in
-    let at_validated = at_answer.before.before in
-    let o = at_validated.before.before.before.before in
+    let at-line = c.before.before in
+    let at-answer = at-line.before.before.before in
+    let at-validated = at-answer.before.before in
+    let o = at-validated.before.before.before.before in
     let a = o.args in
-    let e = verdict_told double double.line _ _ at_validated.validate_for_source.ensures at_answer.answer.given.1 in
-    let length = refused_view_length a.k at_answer.answer.given.0.0 o.requires.0 (omega arith) in
-    (named_part (refused_text a.closed a.outline.now a.d a.k a.list.now _ e) (record { piece = at_line.put_refused_view.ensures; short = length }), refused_buffer a.closed a.outline.now a.d a.k a.list.now _ e)
+    let e = verdict_told double double.line _ _ at-validated.validate-for-source.ensures at-answer.answer.given.1 in
+    let length = refused_view_length a.k at-answer.answer.given.0.0 o.requires.0 (omega arith) in
+    (named_part (refused_text a.closed a.outline.now a.d a.k a.list.now _ e) (record { piece = at-line.put-refused-view.ensures; short = length }), refused_buffer a.closed a.outline.now a.d a.k a.list.now _ e)
 
 pub put_view_spec : {M : Type 1} → statement M
 put_view_spec =

@@ -11,20 +11,20 @@ use Rattle.job.proofs.Parting.{named_part}
 use Rattle.job.proofs.part.put_view_of.Statement.{statement}
 use Rattle.job.proofs.part.put_view_of.Tie as tie
 
-returns : tie.Need_returns
+returns : tie.Need-returns
 unfolding view_part view_buffer_of
 returns c =
-    let at_view = c.before.before.before.before in
-    let at_closed = at_view.before.before.before in
-    let at_record = at_closed.before in
-    let at_bytes = at_record.before in
-    let o = at_bytes.before.before.before.before.before in
+    let at-view = c.before.before.before.before in
+    let at-closed = at-view.before.before.before in
+    let at-record = at-closed.before in
+    let at-bytes = at-record.before in
+    let o = at-bytes.before.before.before.before.before in
     let a = o.args in
     let s = a.outline.now in
-    let t = at_closed.is_closed.ensures ∙ ap closed o.requires.0.is in
-    let d = at_record.record_of.ensures ∙ ap record_value at_bytes.record_at.ensures in (
-      named_part (ap₂ (λ (t : Bool) (d : PlineViewData). view_text t s a.k d) t d) at_view.put_view.ensures.0,
-      at_view.put_view.ensures.1 ∙ ap₂ (λ (t : Bool) (d : PlineViewData). view_buffer t s d a.list.now) t d,
+    let t = at-closed.is-closed.ensures ∙ ap closed o.requires.0.is in
+    let d = at-record.record_of.ensures ∙ ap record_value at-bytes.record-at.ensures in (
+      named_part (ap₂ (λ (t : Bool) (d : PlineViewData). view_text t s a.k d) t d) at-view.put_view.ensures.0,
+      at-view.put_view.ensures.1 ∙ ap₂ (λ (t : Bool) (d : PlineViewData). view_buffer t s d a.list.now) t d,
     )
 
 pub put_view_of_spec : {M : Type 1} → statement M

@@ -6,10 +6,10 @@ use Rattle.job.proofs.Parting.{part_filled}
 use Rattle.job.proofs.part.refused_sheet.Statement.{statement}
 use Rattle.job.proofs.part.refused_sheet.Tie as tie
 
-returns : tie.Need_returns
+returns : tie.Need-returns
 returns c =
     let short = refused_length c.before.before.args.number (omega arith) in
-    part_filled (record { piece = c.Put_refused.ensures; short = omega arith }) (omega arith)
+    part_filled (record { piece = c.Put-refused.ensures; short = omega arith }) (omega arith)
 
 pub refused_sheet_spec : {M : Type 1} → statement M
 refused_sheet_spec = tie.close (tie.spec (λ c κs. search rules) returns)

@@ -12,19 +12,19 @@ use Rattle.job.proofs.Parting.{no_part, part_filled}
 use Rattle.job.proofs.part.sheet_part.Statement.{statement}
 use Rattle.job.proofs.part.sheet_part.Tie as tie
 
-returns : tie.Need_returns
+returns : tie.Need-returns
 returns c =
     let a = c.before.before.before.before.args in
-    let p = no_part a.bytes.now a.outline.now a.list.now a.k (failed c.before.header_is_sound.ensures c.if1.true) in
+    let p = no_part a.bytes.now a.outline.now a.list.now a.k (failed c.before.header-is-sound.ensures c.if1.true) in
     (subst (λ (t : List ℕ). Filled t a.out.now a.out.now 0) p.0 (nothing a.out.now), p.1)
 
-put_part_requires : tie.Need_put_part_requires
+put_part_requires : tie.Need-put-part-requires
 put_part_requires c κs =
     let i = c.before.before.before in
-    (headed _ _ (passed i.before.header_is_sound.ensures i.if1.false) c.before.before.header_of.ensures, omega arith)
+    (headed _ _ (passed i.before.header-is-sound.ensures i.if1.false) c.before.before.header_of.ensures, omega arith)
 
-returns_2 : tie.Need_returns_2
-returns_2 c = (part_filled c.put_part.ensures.0 (omega arith), c.put_part.ensures.1)
+returns_2 : tie.Need-returns-2
+returns_2 c = (part_filled c.put-part.ensures.0 (omega arith), c.put-part.ensures.1)
 
 pub sheet_part_spec : {M : Type 1} → statement M
 sheet_part_spec = tie.close (tie.spec (λ c κs. search rules) returns (λ c κs. search rules) put_part_requires returns_2)

@@ -10,7 +10,7 @@ use Rattle.job.specs.Header.{header_size, vertex_size}
 use Rattle.job.proofs.records.record_at.Statement.{statement}
 use Rattle.job.proofs.records.record_at.Tie as tie
 
-returns : tie.Need_returns
+returns : tie.Need-returns
 returns c =
     let o = c.before.before in
     let a = o.args in

@@ -19,35 +19,35 @@ invariant_loop bytes h n k₀ k = (k ≤ n) × (all (λ j. fields_ok (record_at_
 abbrev decreases_loop : tie.decreases_loop
 decreases_loop bytes h n k₀ k = n - k
 
-loop_holds : tie.Need_loop_init invariant_loop decreases_loop
+loop_holds : tie.Need-loop-init invariant_loop decreases_loop
 unfolding all
 loop_holds c = (omega arith, refl)
 
-fails : tie.Need_returns invariant_loop decreases_loop
+fails : tie.Need-returns invariant_loop decreases_loop
 fails c =
-    let at_sound = c.before in
-    let at_record = at_sound.before in
-    let at_loop = at_record.before.before in
-    let o = at_loop.before.before in
+    let at-sound = c.before in
+    let at-record = at-sound.before in
+    let at-loop = at-record.before.before in
+    let o = at-loop.before.before in
     let b = o.args.bytes.now in
     let n : o.args.h.views ≡ views b = ap (λ (h : Header). h.views) o.requires.is in
-    sym (all_not _ (views b) at_loop.loop.k (omega arith) (failed (at_sound.record_is_sound.ensures ∙ ap fields_ok at_record.record_at.ensures) c.if1.true))
+    sym (all_not _ (views b) at-loop.loop.k (omega arith) (failed (at-sound.record-is-sound.ensures ∙ ap fields_ok at-record.record-at.ensures) c.if1.true))
 
-loop_again : tie.Need_loop_preserved invariant_loop decreases_loop
+loop_again : tie.Need-loop-preserved invariant_loop decreases_loop
 loop_again c =
-    let at_sound = c.before in
-    let at_record = at_sound.before in
-    let at_loop = at_record.before.before in
-    (omega arith, all_more _ at_loop.loop.k at_loop.loop.invariant.1 (passed (at_sound.record_is_sound.ensures ∙ ap fields_ok at_record.record_at.ensures) c.if1.false))
+    let at-sound = c.before in
+    let at-record = at-sound.before in
+    let at-loop = at-record.before.before in
+    (omega arith, all_more _ at-loop.loop.k at-loop.loop.invariant.1 (passed (at-sound.record-is-sound.ensures ∙ ap fields_ok at-record.record-at.ensures) c.if1.false))
 
-holds : tie.Need_returns_2 invariant_loop decreases_loop
+holds : tie.Need-returns-2 invariant_loop decreases_loop
 holds c =
-    let at_loop = c.before in
-    let o = at_loop.before.before in
+    let at-loop = c.before in
+    let o = at-loop.before.before in
     let b = o.args.bytes.now in
     let n : o.args.h.views ≡ views b = ap (λ (h : Header). h.views) o.requires.is in
-    let e : at_loop.loop.k ≡ views b = omega arith in
-    sym at_loop.loop.invariant.1 ∙ ap (all (λ j. fields_ok (record_at_of b j))) e
+    let e : at-loop.loop.k ≡ views b = omega arith in
+    sym at-loop.loop.invariant.1 ∙ ap (all (λ j. fields_ok (record_at_of b j))) e
 
 pub records_are_sound_spec : {M : Type 1} → statement M
 records_are_sound_spec =

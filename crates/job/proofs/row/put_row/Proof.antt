@@ -5,15 +5,15 @@ use Rattle.job.specs.Rows.{row}
 use Rattle.job.proofs.row.put_row.Statement.{statement}
 use Rattle.job.proofs.row.put_row.Tie as tie
 
-returns : tie.Need_returns
+returns : tie.Need-returns
 unfolding row
 returns c =
     let at_end = c.before.before in
-    let at_bulge = at_end.before.before.before.before in
-    let at_y = at_bulge.before.before.before.before in
+    let at-bulge = at_end.before.before.before.before in
+    let at_y = at-bulge.before.before.before.before in
     let at_x = at_y.before.before.before.before in
     let at_position = at_x.before.before.before.before in
-    five pieces at_position.put_decimal.ensures.piece at_x.put_float.ensures.piece at_y.put_float2.ensures.piece at_bulge.put_float3.ensures.piece at_end.put_byte.ensures.piece
+    five pieces at_position.put-decimal.ensures.piece at_x.put-float.ensures.piece at_y.put-float2.ensures.piece at-bulge.put-float3.ensures.piece at_end.put_byte.ensures.piece
 
 pub put_row_spec : {M : Type 1} → statement M
 put_row_spec =

@@ -2,7 +2,7 @@
 use mathlib.Core.Path.{◌≡◌, refl, sym, ap, ◌∙◌}
 use Prim.Native.Nat.{◌-◌, ◌≤◌}
 use native.Mathlib.Omega.{arith}
-use native.Mathlib.Numerals.{add_one}
+use native.Mathlib.Numerals.{add-one}
 use lib.ListN.{length}
 use Rattle.text.specs.Wrote.{Piece}
 use Rattle.job.specs.Rows.{joined, rows}
@@ -16,26 +16,26 @@ invariant_loop out₀ at list n e₀ k₀ out e k = (k ≤ n) × (length out ≡
 abbrev decreases_loop : tie.decreases_loop
 decreases_loop out₀ at list n e₀ k₀ out e k = n - k
 
-loop_holds : tie.Need_loop_init invariant_loop decreases_loop
+loop_holds : tie.Need-loop-init invariant_loop decreases_loop
 unfolding rows joined
 loop_holds c = (omega arith, refl, no_piece _ _)
 
-loop_again : tie.Need_loop_preserved invariant_loop decreases_loop
+loop_again : tie.Need-loop-preserved invariant_loop decreases_loop
 unfolding rows joined
 loop_again c =
     let at_row = c.before.before in
-    let at_loop = at_row.before.before.before.before.before.before in
-    let a = at_loop.before.before.before.args in
-    let r = at_row.put_row in
-    let l = at_loop.loop in
-    (omega arith, r.auto.0 ∙ l.invariant.1, named_piece (ap (rows a.list.now) (sym (add_one l.k))) (then l.invariant.2 r.ensures))
+    let at-loop = at_row.before.before.before.before.before.before in
+    let a = at-loop.before.before.before.args in
+    let r = at_row.put-row in
+    let l = at-loop.loop in
+    (omega arith, r.auto.0 ∙ l.invariant.1, named_piece (ap (rows a.list.now) (sym (add-one l.k))) (then l.invariant.2 r.ensures))
 
-returns : tie.Need_returns invariant_loop decreases_loop
+returns : tie.Need-returns invariant_loop decreases_loop
 returns c =
-    let at_loop = c.before in
-    let a = at_loop.before.before.before.args in
-    let e : at_loop.loop.k ≡ a.n = omega arith in
-    named_piece (ap (rows a.list.now) e) at_loop.loop.invariant.2
+    let at-loop = c.before in
+    let a = at-loop.before.before.before.args in
+    let e : at-loop.loop.k ≡ a.n = omega arith in
+    named_piece (ap (rows a.list.now) e) at-loop.loop.invariant.2
 
 pub put_rows_spec : {M : Type 1} → statement M
 put_rows_spec =

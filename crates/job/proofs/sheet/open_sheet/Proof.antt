@@ -7,15 +7,15 @@ use Rattle.job.proofs.Heads.{headed}
 use Rattle.job.proofs.sheet.open_sheet.Statement.{statement}
 use Rattle.job.proofs.sheet.open_sheet.Tie as tie
 
-returns : tie.Need_returns
+returns : tie.Need-returns
 unfolding open_of open_buffer sheet_of buffer_after
-returns c = let e = failed c.before.header_is_sound.ensures c.if1.true in (simp e, simp e)
+returns c = let e = failed c.before.header-is-sound.ensures c.if1.true in (simp e, simp e)
 
-open_after_requires : tie.Need_open_after_requires
+open_after_requires : tie.Need-open-after-requires
 open_after_requires c κs =
-    let at_header = c.before in
-    let past_header = at_header.before in
-    (headed _ _ (passed past_header.before.header_is_sound.ensures past_header.if1.false) at_header.header_of.ensures, search rules)
+    let at-header = c.before in
+    let past-header = at-header.before in
+    (headed _ _ (passed past-header.before.header-is-sound.ensures past-header.if1.false) at-header.header_of.ensures, search rules)
 
 pub open_sheet_spec : {M : Type 1} → statement M
 open_sheet_spec = tie.close (tie.spec (λ c κs. search rules) returns (λ c κs. search rules) open_after_requires (λ c. search rules))

@@ -8,19 +8,19 @@ use Rattle.lent.proofs.Laws.{hands_on, replies, stored_as}
 use Rattle.lent.proofs.give.give_flag.Statement.{statement}
 use Rattle.lent.proofs.give.give_flag.Tie as tie
 
-returns : tie.Need_returns
+returns : tie.Need-returns
 returns c =
-    let at_write_byte = c.before.before in
-    let at_if1 = at_write_byte.before.before in
-    let at_answer = at_if1.before.before in
-    replies (ap bool_reply (sym at_answer.answer.given.1)) (stored_as one flag_byte (sym (ap flag_byte at_if1.if1.true)) at_write_byte.write_byte.ensures)
+    let at-write-byte = c.before.before in
+    let at-if1 = at-write-byte.before.before in
+    let at-answer = at-if1.before.before in
+    replies (ap bool_reply (sym at-answer.answer.given.1)) (stored_as one flag_byte (sym (ap flag_byte at-if1.if1.true)) at-write-byte.write_byte.ensures)
 
-returns_2 : tie.Need_returns_2
+returns_2 : tie.Need-returns-2
 returns_2 c =
-    let at_write_byte2 = c.before.before in
-    let at_if1 = at_write_byte2.before.before in
-    let at_answer = at_if1.before.before in
-    replies (ap bool_reply (sym at_answer.answer.given.1)) (stored_as one flag_byte (sym (ap flag_byte at_if1.if1.false)) at_write_byte2.write_byte2.ensures)
+    let at-write-byte2 = c.before.before in
+    let at-if1 = at-write-byte2.before.before in
+    let at-answer = at-if1.before.before in
+    replies (ap bool_reply (sym at-answer.answer.given.1)) (stored_as one flag_byte (sym (ap flag_byte at-if1.if1.false)) at-write-byte2.write-byte2.ensures)
 
 pub give_flag_spec : {M : Type 1} → statement M
 give_flag_spec = tie.close (tie.spec (λ c. search rules) (λ c κs. tt) (λ c κs. tt) (λ c. search rules) (λ c. search rules) returns (λ c. search rules) returns_2 (λ c. search (hands_on bool_reply)))

@@ -6,11 +6,11 @@ use Rattle.lent.proofs.Laws.{hands_on, replies}
 use Rattle.lent.proofs.verdict.give_verdict.Statement.{statement}
 use Rattle.lent.proofs.verdict.give_verdict.Tie as tie
 
-returns : tie.Need_returns
+returns : tie.Need-returns
 returns c =
-    let at_put_verdict = c.before.before.before.before in
-    let at_answer = at_put_verdict.before.before.before.before in
-    replies (ap validation_reply (sym at_answer.answer.given.1)) at_put_verdict.put_verdict.ensures
+    let at-put-verdict = c.before.before.before.before in
+    let at-answer = at-put-verdict.before.before.before.before in
+    replies (ap validation_reply (sym at-answer.answer.given.1)) at-put-verdict.put-verdict.ensures
 
 pub give_verdict_spec : {M : Type 1} → statement M
 give_verdict_spec = tie.close (tie.spec (λ c. search rules) (λ c κs. tt) (λ c. search rules) (λ c. search rules) (λ c. search rules) returns (λ c. search (hands_on validation_reply)))

@@ -15,16 +15,16 @@ invariant_loop words out₀ k₀ out k = Copying words out₀ out k
 abbrev decreases_loop : tie.decreases_loop
 decreases_loop words out₀ k₀ out k = length words - k
 
-returns : tie.Need_returns invariant_loop decreases_loop
+returns : tie.Need-returns invariant_loop decreases_loop
 returns c = short itself c.if1.true
 
-loop_holds : tie.Need_loop_init invariant_loop decreases_loop
+loop_holds : tie.Need-loop-init invariant_loop decreases_loop
 loop_holds c = copy_none _ _ (omega arith)
 
-loop_again : tie.Need_loop_preserved invariant_loop decreases_loop
+loop_again : tie.Need-loop-preserved invariant_loop decreases_loop
 loop_again c = copy_more _ _ 0 c.before.before.loop.invariant (omega arith)
 
-returns_2 : tie.Need_returns_2 invariant_loop decreases_loop
+returns_2 : tie.Need-returns-2 invariant_loop decreases_loop
 returns_2 c = let i = c.before.loop.invariant in stores itself i.room (copy_all _ _ i (omega arith))
 
 pub write_words_spec : {M : Type 1} → statement M

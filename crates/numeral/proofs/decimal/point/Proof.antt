@@ -12,22 +12,22 @@ invariant_loop text i₀ i = Unpointed text i
 abbrev decreases_loop : tie.decreases_loop
 decreases_loop text i₀ i = length text - i
 
-returns : tie.Need_returns invariant_loop decreases_loop
+returns : tie.Need-returns invariant_loop decreases_loop
 returns c =
     let t = c.before.before in
     let l = t.before.loop in
-    unpointed_at t.before.before.args.text.now l.i l.invariant t.loop_test.true c.if1.true
+    unpointed_at t.before.before.args.text.now l.i l.invariant t.loop-test.true c.if1.true
 
-loop_again : tie.Need_loop_preserved invariant_loop decreases_loop
+loop_again : tie.Need-loop-preserved invariant_loop decreases_loop
 loop_again c =
     let t = c.before.before in
     let l = t.before.loop in
-    unpointed_more t.before.before.args.text.now l.i l.invariant t.loop_test.true c.if1.false
+    unpointed_more t.before.before.args.text.now l.i l.invariant t.loop-test.true c.if1.false
 
-returns_2 : tie.Need_returns_2 invariant_loop decreases_loop
+returns_2 : tie.Need-returns-2 invariant_loop decreases_loop
 returns_2 c =
     let l = c.before.loop in
-    unpointed_end c.before.before.args.text.now l.i l.invariant c.loop_test.false
+    unpointed_end c.before.before.args.text.now l.i l.invariant c.loop-test.false
 
 pub point_spec : {M : Type 1} → statement M
 point_spec =

@@ -3,7 +3,7 @@ use mathlib.Core.Path.{◌≡◌, refl, sym, ap, ◌∙◌}
 use Prim.Native.Nat.{ℕ, zero, suc, ◌^◌, ◌≤◌}
 use native.Mathlib.Nat.{le_antisymm}
 use native.Mathlib.Omega.{arith}
-use lib.Arith.{lt_of_le_ne}
+use lib.Arith.{lt_of_le-ne}
 use Rattle.numeral.proofs.decimal.power.Statement.{statement}
 use Rattle.numeral.proofs.decimal.power.Tie as tie
 
@@ -17,9 +17,9 @@ None k (suc n) = None k n × (k ≡ n → ⊥)
 
 none_below : (k n : ℕ) → None k n → n ≤ k
 none_below k zero h = omega arith
-none_below k (suc n) h = lt_of_le_ne (none_below k n h.0) (λ e. h.1 (sym e))
+none_below k (suc n) h = lt_of_le-ne (none_below k n h.0) (λ e. h.1 (sym e))
 
-returns_16 : tie.Need_returns_16
+returns_16 : tie.Need-returns-16
 returns_16 c = power_at 15 (le_antisymm c.before.requires (none_below _ 15 c.match.rest)) refl
 
 pub power_spec : {M : Type 1} → statement M

@@ -6,7 +6,7 @@ use borrow.Author.Rules.{rules}
 use Rattle.numeral.proofs.decimal.signed.Statement.{statement}
 use Rattle.numeral.proofs.decimal.signed.Tie as tie
 
-returns : tie.Need_returns
+returns : tie.Need-returns
 returns c = sym (ap (λ (b : Bool). cond b (neg c.before.args.x) c.before.args.x) c.if1.true)
 
 pub signed_spec : {M : Type 1} → statement M

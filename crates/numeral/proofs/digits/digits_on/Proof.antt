@@ -16,30 +16,30 @@ invariant_loop text v n₀ i₀ n i = Reading text v n i
 abbrev decreases_loop : tie.decreases_loop
 decreases_loop text v n₀ i₀ n i = length text - i
 
-returns : tie.Need_returns invariant_loop decreases_loop
+returns : tie.Need-returns invariant_loop decreases_loop
 returns c =
     let at_test = c.before.before.before in
-    reading_stopped at_test.before.loop.invariant at_test.loop_test.true (failed c.before.is_digit.ensures c.if1.true)
+    reading_stopped at_test.before.loop.invariant at_test.loop-test.true (failed c.before.is_digit.ensures c.if1.true)
 
-sub_written_on : tie.Need_overflow_sub_written_on invariant_loop decreases_loop
+sub_written_on : tie.Need-overflow-sub-written-on invariant_loop decreases_loop
 sub_written_on c =
-    let at_if1 = c.before in
-    let d = digit_bounds _ (passed at_if1.before.is_digit.ensures at_if1.if1.false) in
+    let at-if1 = c.before in
+    let d = digit_bounds _ (passed at-if1.before.is_digit.ensures at-if1.if1.false) in
     omega (arith, d.0, c.wide.ensures.0)
 
-written_on_requires : tie.Need_written_on_requires invariant_loop decreases_loop
+written_on_requires : tie.Need-written-on-requires invariant_loop decreases_loop
 written_on_requires c κs =
-    let at_if1 = c.before in
-    let d = digit_bounds _ (passed at_if1.before.is_digit.ensures at_if1.if1.false) in
-    (at_if1.before.before.before.before.loop.invariant.small, omega (arith, d.1, c.wide.ensures.0))
+    let at-if1 = c.before in
+    let d = digit_bounds _ (passed at-if1.before.is_digit.ensures at-if1.if1.false) in
+    (at-if1.before.before.before.before.loop.invariant.small, omega (arith, d.1, c.wide.ensures.0))
 
-loop_again : tie.Need_loop_preserved invariant_loop decreases_loop
+loop_again : tie.Need-loop-preserved invariant_loop decreases_loop
 loop_again c =
     let at_wide = c.before in
-    let at_if1 = at_wide.before in
-    let at_test = at_if1.before.before.before in
+    let at-if1 = at_wide.before in
+    let at_test = at-if1.before.before.before in
     let l = at_test.before.loop in
-    reading_more l.invariant _ at_test.loop_test.true (passed at_if1.before.is_digit.ensures at_if1.if1.false)
+    reading_more l.invariant _ at_test.loop-test.true (passed at-if1.before.is_digit.ensures at-if1.if1.false)
     (c.written_on.ensures.0 ∙ ap (λ (b : ℕ). kept (10 * l.n + (b - 48))) at_wide.wide.ensures.0) c.written_on.ensures.1
 
 pub digits_on_spec : {M : Type 1} → statement M
@@ -58,4 +58,4 @@ digits_on_spec =
     (λ c. omega arith)
     (λ c. omega arith)
     loop_again
-    (λ c. reading_done c.before.loop.invariant c.loop_test.false))
+    (λ c. reading_done c.before.loop.invariant c.loop-test.false))

@@ -12,11 +12,11 @@ invariant_loop out₀ at numbers e₀ k₀ out e k = Writing numbers out₀ at k
 abbrev decreases_loop : tie.decreases_loop
 decreases_loop out₀ at numbers e₀ k₀ out e k = length numbers - k
 
-loop_again : tie.Need_loop_preserved invariant_loop decreases_loop
+loop_again : tie.Need-loop-preserved invariant_loop decreases_loop
 loop_again c =
-    let at_put = c.before.before in
-    let at_loop = at_put.before.before.before.before in
-    writing_more at_loop.loop.invariant (omega arith) at_put.put_number.auto.0 at_put.put_number.ensures.piece
+    let at-put = c.before.before in
+    let at-loop = at-put.before.before.before.before in
+    writing_more at-loop.loop.invariant (omega arith) at-put.put-number.auto.0 at-put.put-number.ensures.piece
 
 pub put_numbers_spec : {M : Type 1} → statement M
 put_numbers_spec =

@@ -7,7 +7,7 @@ use native.Mathlib.Omega.{arith}
 use lib.Dec.{eqb, leb}
 use lib.ListN.{length, drop}
 use borrow.Author.Rules.{rules}
-use borrow.Author.Tests.{lt_leb, le_leb, leb_true}
+use borrow.Author.Tests.{lt-leb, le-leb, leb-true}
 use Rattle.real.proofs.Pick.{passed, failed}
 use Rattle.real.proofs.Replies.{and_both}
 use Rattle.real.specs.Reply.{given}
@@ -19,33 +19,33 @@ use Rattle.outline_sheet.proofs.Written.{sheet_length}
 use Rattle.outline_sheet.proofs.sheet.outline_sheet.Statement.{statement}
 use Rattle.outline_sheet.proofs.sheet.outline_sheet.Tie as tie
 
-torn : tie.Need_returns
+torn : tie.Need-returns
 unfolding sheet_to sheet_buffer buffer_by
-torn c = let w = failed c.before.outline_is_whole.ensures c.if1.true in (simp w, simp w)
+torn c = let w = failed c.before.outline-is-whole.ensures c.if1.true in (simp w, simp w)
 
-beyond : tie.Need_returns_2
+beyond : tie.Need-returns-2
 unfolding sheet_to sheet_buffer buffer_by
 beyond c =
-    let at_whole = c.before.before in
-    let w = passed at_whole.before.outline_is_whole.ensures at_whole.if1.false in
-    let r = failed c.before.vertices_in_range.ensures c.if2.true in
+    let at-whole = c.before.before in
+    let w = passed at-whole.before.outline-is-whole.ensures at-whole.if1.false in
+    let r = failed c.before.vertices-in-range.ensures c.if2.true in
     (simp (w, r), simp (w, r))
 
-short : tie.Need_returns_3
+short : tie.Need-returns-3
 unfolding sheet_to sheet_buffer buffer_by
 short c =
-    let at_range = c.before in
-    let at_whole = at_range.before.before in
-    let w = passed at_whole.before.outline_is_whole.ensures at_whole.if1.false in
-    let r = passed at_range.before.vertices_in_range.ensures at_range.if2.false in
-    let s = lt_leb _ _ c.if3.true in
+    let at-range = c.before in
+    let at-whole = at-range.before.before in
+    let w = passed at-whole.before.outline-is-whole.ensures at-whole.if1.false in
+    let r = passed at-range.before.vertices-in-range.ensures at-range.if2.false in
+    let s = lt-leb _ _ c.if3.true in
     (simp (w, r, s), simp (w, r, s))
 
-few : tie.Need_put_sheet_requires
+few : tie.Need-put-sheet-requires
 unfolding whole_outline
 few c κs = ?
 
-written : tie.Need_returns_4
+written : tie.Need-returns-4
 unfolding sheet_to sheet_buffer buffer_by
 written c = ?
 

@@ -3,7 +3,7 @@ use Rattle.real.proofs.Pick.{picks}
 use Rattle.plane.proofs.math.line_closest.Statement.{statement}
 use Rattle.plane.proofs.math.line_closest.Tie as tie
 
-between : tie.Need_returns_3
+between : tie.Need-returns-3
 between c =
     let past2 = c.before.before in
     let past1 = past2.before in

@@ -19,7 +19,7 @@ use contract.Monad.{Fun, fact}
 use contract.Running.{tables, tables_of}
 use types.Kit.{‵, raw, ◌⊛◌, ⋆, some, later, ◌$◌, ◌∵◌, !, qed, by, move, drop, use1, use2, split, join, pick, fsplit, fjoin, suffices, frame, await, done}
 use types.Run.{look, init, forget, stop, from, load, and_then, no_more, land, returns, enter, alloc1, alloc0, params1, pass1, pass0, free1, free0}
-use sound.WpLaws.{FmC, fm_of, WpFn_mono}
+use sound.WpLaws.{FmC, fm_of, WpFn-mono}
 use denote.RattleType.{RattleType, owns}
 use denote.Laws.{Is, shows}
 use denote.Plain.{uint_Makes, uint_vals, uint_Tells}
@@ -35,7 +35,7 @@ use denote.Triple.Call.{calls_at}
 use denote.Triple.Entry.{Vals, on_entry}
 use denote.Triple.Spec.{Meets, triple_of}
 use denote.Triple.Table.{entered, cited}
-use denote.Triple.Walked.{says, Stays, stay_none_slice, stay_none, walk_of, Goes_none_slice, Goes_none, Walks, ends_at, walked, walk_Meets}
+use denote.Triple.Walked.{says, Stays, stay_none_slice, stay_none, walk_of, Goes-none_slice, Goes-none, Walks, ends_at, walked, walk_Meets}
 use denote.Exit.{yes}
 use denote.Triple.Clauses.{ensured, lasts}
 use Rattle.real.specs.Reply.{Reply}
@@ -53,9 +53,9 @@ use Rattle.view.proofs.view_data.PlineViewData.TheLaws as D₀'
 use Rattle.plane.specs.contracts.pline_vertex.VertexAnswer as S
 use Rattle.plane.proofs.pline_vertex.VertexAnswer.TheLaws as S'
 use Rattle.pline_view.specs.contracts.pline_view.PlineView.new as new
-use Rattle.pline_view.proofs.pline_view.PlineView.new.Symbol as new_def
+use Rattle.pline_view.proofs.pline_view.PlineView.new.Symbol as new-def
 use Rattle.pline_view.proofs.pline_view.PlineView.new.Symbol.{name as #new}
-use Rattle.pline_view.proofs.pline_view.PlineView.new.Met as new_thm
+use Rattle.pline_view.proofs.pline_view.PlineView.new.Met as new-thm
 use Rattle.pline_view.specs.contracts.pline_view.PlineView.get as get
 use Rattle.pline_view.proofs.pline_view.PlineView.get.Symbol as get_def
 use Rattle.pline_view.proofs.pline_view.PlineView.get.Symbol.{name as #get}
@@ -149,7 +149,7 @@ module _ {M : Type 1} {𝓤 : Ura M} (𝓛 : Logic 𝓤) (mem : Memory → SProp
       -- [what k owns; the result; what s owns; what d owns]
       move ! (3 ∷ 0 ∷ []) $ fjoin ! $ move ! (2 ∷ 0 ∷ []) $ fjoin ! $ frame ! $ done !
 
-  module _ (C : Calls 𝓤 H) (Λ : Loops 𝓤 H) (fm : FmC 𝓤 H 𝓛.laws C) (known_new : Triple 𝓤 (C #new) (New 𝓛 mem run)) (known_get : Triple 𝓤 (C #get) (Get 𝓛 mem run)) where
+  module _ (C : Calls 𝓤 H) (Λ : Loops 𝓤 H) (fm : FmC 𝓤 H 𝓛.laws C) (known-new : Triple 𝓤 (C #new) (New 𝓛 mem run)) (known-get : Triple 𝓤 (C #get) (Get 𝓛 mem run)) where
     walk : Is (ShrSlice (named 0) κ f64) s (v ∷ []) → Is D₀.the_row d (w ∷ []) → k < 2 ^ 64 → ent 𝓤 (on_entry 𝓛 this.signature (κ, tt) (q, tt) (s, (d, (k, tt))) at) (WpFn 𝓤 H C Λ code.function (v ∷ w ∷ vint w64 k ∷ []) Post)
     walk p p₂ fits =
         qed 𝓛 (raw (on_entry 𝓛 this.signature (κ, tt) (q, tt) (s, (d, (k, tt))) at) ∷ []) ∵ enter ! C Λ code.function (v ∷ w ∷ vint w64 k ∷ []) _ $
@@ -157,14 +157,14 @@ module _ {M : Type 1} {𝓤 : Ura M} (𝓛 : Logic 𝓤) (mem : Memory → SProp
         pass1 ! (init ! 4 refl ((LL.lawful D₀.the_type D₀'.the_laws 𝓛).typed d (w ∷ []) p₂).0) $ pass1 ! (init ! 2 refl (tt, record { fits = fits })) $ pass0 ! $
         move ! (10 ∷ []) $ use1 𝓛 (raw ((New 𝓛 mem run).pre to_new) ⊛ (‵ Own ⊛ ‵ Own₂)) goes_new $ split ! $ move ! (1 ∷ []) $ split ! $ move ! (2 ∷ []) $
         -- [what `new` asks; what s owns; what d owns; room for _4; …; _3; …; _2; …; _1; …; room for _0; …]
-        calls_at ! fm (New 𝓛 mem run) known_new to_new (and_then ! (load ! (from ! (stop !)) (look ! 9 refl)) (and_then ! (load ! (from ! (stop !)) (look ! 7 refl)) (no_more !))) (λ u.
+        calls_at ! fm (New 𝓛 mem run) known-new to_new (and_then ! (load ! (from ! (stop !)) (look ! 9 refl)) (and_then ! (load ! (from ! (stop !)) (look ! 7 refl)) (no_more !))) (λ u.
         use1 𝓛 (later (some (λ (r : PlineView). ((‵ (flft κ q) ⊛ ‵ ftrue) ⊛ ‵ ((B (κ, tt)).own r (u ∷ []))) ⊛ raw (ensured 𝓛 new.ended (new.clauses 𝓛 mem run) (κ, tt) (s, (d, tt)) tt r)))) (id⊢ 𝓤 _) $ await ! tt $ pick ! (λ r.
         split ! $ move ! (1 ∷ []) $ use1 𝓛 (raw (fact 𝓤 ((r.source ≡ s) × (r.data ≡ d)))) (new_said r) $ heard ! ((r.source ≡ s) × (r.data ≡ d)) (λ e. split ! $ move ! (1 ∷ []) $
         -- [what the struct owns; the token; what s owns; what d owns; room for _4; …]
         peeks ! (B (κ, tt)) (Is (B (κ, tt))) (shows 𝓛 (B (κ, tt))) r (u ∷ []) (λ is.
         land ! (from ! (stop !)) (init ! 4 refl ((LL.lawful (T.the_type αᵉ) (T'.the_laws αᵉ) 𝓛).typed r _ is).0) $
         use2 𝓛 (raw ((Get 𝓛 mem run).pre (to_get r u))) (goes_get fits r u) $
-        calls_at ! fm (Get 𝓛 mem run) known_get (to_get r u) (and_then ! (load ! (from ! (stop !)) (look ! 3 refl)) (and_then ! (load ! (from ! (stop !)) (look ! 5 refl)) (no_more !))) (λ u'.
+        calls_at ! fm (Get 𝓛 mem run) known-get (to_get r u) (and_then ! (load ! (from ! (stop !)) (look ! 3 refl)) (and_then ! (load ! (from ! (stop !)) (look ! 5 refl)) (no_more !))) (λ u'.
         use1 𝓛 (later (some (λ (t : VertexAnswer). ((‵ (flft κ q) ⊛ ‵ ftrue) ⊛ ‵ ((S.the_row).own_val t (u' ∷ []))) ⊛ raw (ensured 𝓛 get.ended (get.clauses 𝓛 mem run) (κ, tt) (r, (k, tt)) tt t)))) (id⊢ 𝓤 _) $ await ! tt $ pick ! (λ t.
         split ! $ move ! (1 ∷ []) $ use1 𝓛 (raw (fact 𝓤 (vertex_reply t ≡ get_vertex_of double r.source.now r.data k))) (get_said r t) $ heard ! (vertex_reply t ≡ get_vertex_of double r.source.now r.data k) (λ e'. split ! $ move ! (1 ∷ []) $
         -- [the result; the token; what s owns; what d owns; _4; …; _3; …; _2; …; _1; …; room for _0; …]
@@ -179,14 +179,14 @@ module _ {M : Type 1} {𝓤 : Ura M} (𝓛 : Logic 𝓤) (mem : Memory → SProp
 
   through_walks : (C : Calls 𝓤 H) (Λ : Loops 𝓤 H) → FmC 𝓤 H 𝓛.laws C → Triple 𝓤 (C #new) (New 𝓛 mem run) → Triple 𝓤 (C #get) (Get 𝓛 mem run)
       → Walks 𝓛 this.ended stayed (WpFn 𝓤 H C Λ code.function) (this.clauses 𝓛 mem run)
-  through_walks C Λ fm known_new known_get = walked 𝓛 this.ended stayed (this.clauses 𝓛 mem run) (WpFn 𝓤 H C Λ code.function) (λ κs. (shr_slice_vals, (LL.vals D₀.the_type D₀'.the_laws, (uint_vals w64, tt)))) (λ κs. (shr_slice_Tells (named 0) κs.0 f64, (LL.tells D₀.the_type D₀'.the_laws, (uint_Tells w64, tt))))
-      (λ κs qs bounds a g are. via 𝓤 _ (fst∗ 𝓤 _ (emp 𝓤)) (walk 𝓛 mem run κs.0 qs.0 a.0 a.1.0 a.1.1.0 C Λ fm known_new known_get are.0 are.1.0 are.1.1.0.1))
+  through_walks C Λ fm known-new known-get = walked 𝓛 this.ended stayed (this.clauses 𝓛 mem run) (WpFn 𝓤 H C Λ code.function) (λ κs. (shr_slice_vals, (LL.vals D₀.the_type D₀'.the_laws, (uint_vals w64, tt)))) (λ κs. (shr_slice_Tells (named 0) κs.0 f64, (LL.tells D₀.the_type D₀'.the_laws, (uint_Tells w64, tt))))
+      (λ κs qs bounds a g are. via 𝓤 _ (fst∗ 𝓤 _ (emp 𝓤)) (walk 𝓛 mem run κs.0 qs.0 a.0 a.1.0 a.1.1.0 C Λ fm known-new known-get are.0 are.1.0 are.1.1.0.1))
 
 through_meets : {M : Type 1} {𝓤 : Ura M} (𝓛 : Logic 𝓤) (mem : Memory → SProp 𝓤) (run : Routine → Fun 𝓤) (𝓣 : Tables 𝓤 𝓛.H)
     → Triple 𝓤 (𝓣.C #new) (New 𝓛 mem run) → Triple 𝓤 (𝓣.C #get) (Get 𝓛 mem run)
     → Meets 𝓛 this.signature (WpFn 𝓤 𝓛.H 𝓣.C 𝓣.Λ code.function) (this.spec 𝓛 mem run)
-through_meets {𝓤 = 𝓤} 𝓛 mem run 𝓣 known_new known_get = walk_Meets 𝓛 this.ended stayed (Goes_none_slice 𝓛 1 (0 ∷ []) tt (plain (λ _. f64)) yes, (Goes_none 𝓛 1 (λ _. D₀.the_row) yes (λ κs x f. refl), (Goes_none 𝓛 1 (λ _. usize) yes (λ κs x f. refl), tt))) (this.clauses 𝓛 mem run) (WpFn 𝓤 𝓛.H 𝓣.C 𝓣.Λ code.function) (WpFn_mono 𝓤 𝓛.H 𝓛.laws 𝓣 code.function)
-    (through_walks 𝓛 mem run 𝓣.C 𝓣.Λ (fm_of 𝓤 𝓛.H 𝓛.laws 𝓣) known_new known_get)
+through_meets {𝓤 = 𝓤} 𝓛 mem run 𝓣 known-new known-get = walk_Meets 𝓛 this.ended stayed (Goes-none_slice 𝓛 1 (0 ∷ []) tt (plain (λ _. f64)) yes, (Goes-none 𝓛 1 (λ _. D₀.the_row) yes (λ κs x f. refl), (Goes-none 𝓛 1 (λ _. usize) yes (λ κs x f. refl), tt))) (this.clauses 𝓛 mem run) (WpFn 𝓤 𝓛.H 𝓣.C 𝓣.Λ code.function) (WpFn-mono 𝓤 𝓛.H 𝓛.laws 𝓣 code.function)
+    (through_walks 𝓛 mem run 𝓣.C 𝓣.Λ (fm_of 𝓤 𝓛.H 𝓛.laws 𝓣) known-new known-get)
 
 pub vertex_through_view_spec : {M : Type 1} → stated.statement M
 unfolding code.routine tables_of
@@ -194,5 +194,5 @@ vertex_through_view_spec 𝓤 𝓛 𝓜 𝓡 =
     entered 𝓤 𝓛.H (triple_of 𝓛 this.signature (this.spec 𝓛 𝓜.mem 𝓡.run))
     (tables 𝓤 𝓛.H 𝓜 𝓡 code.env).C (tables 𝓤 𝓛.H 𝓜 𝓡 code.env).Λ #this code.function (code.unfolded 𝓤 𝓛.H 𝓜 𝓡)
     (through_meets 𝓛 𝓜.mem 𝓡.run (tables_of 𝓤 𝓛.H 𝓜 (tables 𝓤 𝓛.H 𝓜 𝓡 code.env))
-    (cited 𝓤 𝓛.H (New 𝓛 𝓜.mem 𝓡.run) 𝓜 𝓡 code.env #new new_def.routine code.calls_pline_view::pline_view::PlineView::new (new_thm.met 𝓤 𝓛 𝓜 𝓡))
-    (cited 𝓤 𝓛.H (Get 𝓛 𝓜.mem 𝓡.run) 𝓜 𝓡 code.env #get get_def.routine code.calls_pline_view::pline_view::PlineView::get (get_thm.met 𝓤 𝓛 𝓜 𝓡)))
+    (cited 𝓤 𝓛.H (New 𝓛 𝓜.mem 𝓡.run) 𝓜 𝓡 code.env #new new-def.routine code.calls-pline-view::pline-view::PlineView::new (new-thm.met 𝓤 𝓛 𝓜 𝓡))
+    (cited 𝓤 𝓛.H (Get 𝓛 𝓜.mem 𝓡.run) 𝓜 𝓡 code.env #get get_def.routine code.calls-pline-view::pline-view::PlineView::get (get_thm.met 𝓤 𝓛 𝓜 𝓡)))

@@ -5,13 +5,13 @@ use borrow.Author.Rules.{rules}
 use Rattle.real.proofs.pattern.bits.Statement.{statement}
 use Rattle.real.proofs.pattern.bits.Tie as tie
 
-float_to_bits_result : tie.Need_float_to_bits_result
+float_to_bits_result : tie.Need-float-to-bits-result
 float_to_bits_result c = no_nan c.before.args.x c.if1.false
 
-returns : tie.Need_returns
+returns : tie.Need-returns
 returns c = nan_bits binary64 c.before.args.x c.if1.true
 
-returns_2 : tie.Need_returns_2
+returns_2 : tie.Need-returns-2
 returns_2 c = search rules
 
 pub bits_spec : {M : Type 1} → statement M

@@ -8,18 +8,18 @@ use Rattle.real.proofs.pattern.magnitude.Tie as tie
 
 -- what owning an `f64` tells: the format holds it
 held : (c : tie.Start) → T (fits binary64 c.args.x)
-held c = subst T (sym c.well_formed.0.1) tt
+held c = subst T (sym c.well-formed.0.1) tt
 
-float_to_bits_result : tie.Need_float_to_bits_result
+float_to_bits_result : tie.Need-float-to-bits-result
 float_to_bits_result c = no_nan c.before.args.x c.if1.false
 
-float_from_bits_result : tie.Need_float_from_bits_result
+float_from_bits_result : tie.Need-float-from-bits-result
 float_from_bits_result c = abs_no_nan binary64 c.before.args.x (held c.before) (no_nan c.before.args.x c.if1.false)
 
-returns : tie.Need_returns
+returns : tie.Need-returns
 returns c = abs_nan c.before.args.x c.if1.true
 
-returns_2 : tie.Need_returns_2
+returns_2 : tie.Need-returns-2
 returns_2 c = abs_pattern binary64 c.before.args.x (held c.before)
 
 pub magnitude_spec : {M : Type 1} → statement M

@@ -8,7 +8,7 @@ use Rattle.real.proofs.Listed.{listed_at}
 use Rattle.real.proofs.table.tabled.Statement.{statement}
 use Rattle.real.proofs.table.tabled.Tie as tie
 
-returns : tie.Need_returns
+returns : tie.Need-returns
 unfolding isqrt
 returns c =
     let i = c.before.before.args.i in (

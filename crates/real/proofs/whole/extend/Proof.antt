@@ -12,10 +12,10 @@ cut c = split c.args.s c.args.r c.args.b c.args.h c.args.l c.requires.1.1
 space : (c : tie.Start) → Room c.args.s c.args.r c.args.b ((c.args.r * c.args.b + c.args.h) / (c.args.s * 2)) ((c.args.r * c.args.b + c.args.h) % (c.args.s * 2))
 space c = room c.args.s c.args.r c.args.b c.args.h c.args.l _ _ c.requires.0 c.requires.1.0 (cut c)
 
-returns : tie.Need_returns
+returns : tie.Need-returns
 returns c = extend_down _ _ _ _ _ _ _ (cut c.before) c.if1.true
 
-returns_2 : tie.Need_returns_2
+returns_2 : tie.Need-returns-2
 returns_2 c = extend_up _ _ _ _ _ _ _ (cut c.before) c.if1.false
 
 pub extend_spec : {M : Type 1} → statement M

@@ -9,23 +9,23 @@ use borrow.Author.Rules.{rules}
 use Rattle.real.proofs.whole.near.Statement.{statement}
 use Rattle.real.proofs.whole.near.Tie as tie
 
-all : (c : tie.After_extend) → Root (c.before.before.args.m * 2 ^ 52) c.extend.result.s c.extend.result.r
+all : (c : tie.After-extend) → Root (c.before.before.args.m * 2 ^ 52) c.extend.result.s c.extend.result.r
 all c = renamed (zeros c.before.before.args.m _ c.before.whole.ensures.sum) c.extend.ensures
   where
     zeros : (m x : ℕ) → x ≡ m → x * (2 ^ 26 * 2 ^ 26) + 0 * 2 ^ 26 + 0 ≡ m * 2 ^ 52
     zeros m x h = omega arith
 
-extend_requires : tie.Need_extend_requires
+extend_requires : tie.Need-extend-requires
 extend_requires c κs =
     let h = c.whole.ensures in
-    let s_ge = root_ge _ _ _ (2 ^ 26) h (omega (arith, c.before.requires)) in
-    let s_lt = root_lt _ _ _ (2 ^ 27) h (omega (arith, c.before.requires)) in
-    (s_lt, (lit≤ tt, record { rest = h.rest; wide = omega arith; high = lit< tt; low = lit< tt }))
+    let s-ge = root_ge _ _ _ (2 ^ 26) h (omega (arith, c.before.requires)) in
+    let s-lt = root_lt _ _ _ (2 ^ 27) h (omega (arith, c.before.requires)) in
+    (s-lt, (lit≤ tt, record { rest = h.rest; wide = omega arith; high = lit< tt; low = lit< tt }))
 
-returns_2 : tie.Need_returns_2
+returns_2 : tie.Need-returns-2
 returns_2 c =
-    let at_extend = c.before.before in
-    near_down _ _ _ (omega (arith, at_extend.before.before.requires)) (all at_extend) c.if1.false
+    let at-extend = c.before.before in
+    near_down _ _ _ (omega (arith, at-extend.before.before.requires)) (all at-extend) c.if1.false
 
 pub near_spec : {M : Type 1} → statement M
 near_spec =

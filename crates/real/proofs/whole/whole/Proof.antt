@@ -7,17 +7,17 @@ use borrow.Author.Rules.{rules}
 use Rattle.real.proofs.whole.whole.Statement.{statement}
 use Rattle.real.proofs.whole.whole.Tie as tie
 
-first_requires : tie.Need_first_requires
+first_requires : tie.Need-first-requires
 first_requires c κs = search rules
 
-extend_requires : tie.Need_extend_requires
+extend_requires : tie.Need-extend-requires
 extend_requires c κs =
     let h = c.first.ensures in
-    let s_ge = root_ge _ _ _ (2 ^ 13) h (omega (arith, c.before.requires)) in
-    let s_lt = root_lt _ _ _ (2 ^ 14) h (omega (arith, c.before.requires)) in
+    let s-ge = root_ge _ _ _ (2 ^ 13) h (omega (arith, c.before.requires)) in
+    let s-lt = root_lt _ _ _ (2 ^ 14) h (omega (arith, c.before.requires)) in
     (omega arith, (lit≤ tt, record { rest = h.rest; wide = omega arith; high = omega arith; low = omega arith }))
 
-returns : tie.Need_returns
+returns : tie.Need-returns
 returns c = renamed (all_54 c.before.before.args.m _ c.before.first.ensures.sum) c.extend.ensures
 
 pub whole_spec : {M : Type 1} → statement M

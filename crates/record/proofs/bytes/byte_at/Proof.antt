@@ -1,13 +1,13 @@
 -- A byte of the slice; past its end, 0.
 use mathlib.Core.Path.{sym}
 use native.Mathlib.Omega.{arith}
-use lib.ListN.{get_or_eq_default}
+use lib.ListN.{get_or-eq_default}
 use borrow.Author.Rules.{rules}
 use Rattle.record.proofs.bytes.byte_at.Statement.{statement}
 use Rattle.record.proofs.bytes.byte_at.Tie as tie
 
-past : tie.Need_returns_2
-past c = (sym (get_or_eq_default c.before.before.args.bytes.now 0 c.if1.false), omega arith)
+past : tie.Need-returns-2
+past c = (sym (get_or-eq_default c.before.before.args.bytes.now 0 c.if1.false), omega arith)
 
 pub byte_at_spec : {M : Type 1} → statement M
 byte_at_spec = tie.close (tie.spec (λ c. search rules) (λ c κs. search rules) (λ c. search rules) past)

@@ -7,10 +7,10 @@ use Rattle.record.proofs.Past.{none16}
 use Rattle.record.proofs.bytes.le16.Statement.{statement}
 use Rattle.record.proofs.bytes.le16.Tie as tie
 
-past : tie.Need_returns
+past : tie.Need-returns
 past c = (sym (none16 _ _ c.if1.true), omega arith)
 
-within : tie.Need_returns_2
+within : tie.Need-returns-2
 unfolding le16
 within c = omega arith
 

@@ -7,10 +7,10 @@ use Rattle.record.proofs.Past.{none32}
 use Rattle.record.proofs.bytes.le32.Statement.{statement}
 use Rattle.record.proofs.bytes.le32.Tie as tie
 
-past : tie.Need_returns
+past : tie.Need-returns
 past c = (sym (none32 _ _ c.if1.true), omega arith)
 
-within : tie.Need_returns_2
+within : tie.Need-returns-2
 unfolding le32
 within c = omega arith
 

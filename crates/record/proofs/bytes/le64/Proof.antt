@@ -7,10 +7,10 @@ use Rattle.record.proofs.Past.{none64}
 use Rattle.record.proofs.bytes.le64.Statement.{statement}
 use Rattle.record.proofs.bytes.le64.Tie as tie
 
-past : tie.Need_returns
+past : tie.Need-returns
 past c = sym (none64 _ _ c.if1.true)
 
-within : tie.Need_returns_2
+within : tie.Need-returns-2
 unfolding le64
 within c = omega arith
 

@@ -1,14 +1,14 @@
 -- Four stores, one after the other, of the four bytes.
 use mathlib.Core.Path.{refl}
 use native.Mathlib.Omega.{arith}
-use lib.ListN.{length_set}
+use lib.ListN.{length-set}
 use borrow.Author.Rules.{rules}
 use Rattle.record.specs.Bytes.{bytes4}
 use Rattle.text.proofs.Writing.{four}
 use Rattle.record.proofs.bytes.put32.Statement.{statement}
 use Rattle.record.proofs.bytes.put32.Tie as tie
 
-returns : tie.Need_returns
+returns : tie.Need-returns
 unfolding bytes4
 returns c = (four _ _ _ _ _ _, refl)
 
@@ -20,13 +20,13 @@ put32_spec =
     (λ c. search rules)
     (λ c. search rules)
     (λ c. search rules)
-    (λ c. simp length_set (omega arith))
+    (λ c. simp length-set (omega arith))
     (λ c. search rules)
     (λ c. search rules)
-    (λ c. simp length_set (omega arith))
+    (λ c. simp length-set (omega arith))
     (λ c. search rules)
     (λ c. search rules)
-    (λ c. simp length_set (omega arith))
+    (λ c. simp length-set (omega arith))
     (λ c. search rules)
     (λ c. search rules)
     returns)

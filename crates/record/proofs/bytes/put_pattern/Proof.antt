@@ -7,7 +7,7 @@ use Rattle.text.proofs.Writing.{named, writes}
 use Rattle.record.proofs.bytes.put_pattern.Statement.{statement}
 use Rattle.record.proofs.bytes.put_pattern.Tie as tie
 
-returns : tie.Need_returns
+returns : tie.Need-returns
 unfolding bytes8 float_bytes
 returns c =
     let at_high = c.before.before in

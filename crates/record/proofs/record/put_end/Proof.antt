@@ -10,14 +10,14 @@ use Rattle.text.proofs.Writing.{writes, named}
 use Rattle.record.proofs.record.put_end.Statement.{statement}
 use Rattle.record.proofs.record.put_end.Tie as tie
 
-returns : tie.Need_returns
+returns : tie.Need-returns
 unfolding end_bytes
 returns c =
-    let at_number = c.before.before in
-    let at_put = at_number.before.before.before.before in
-    let at_direction = at_put.before in
-    let a = at_direction.before.before.before.args in
-    (named (ap (λ (n : ℕ). bytes4 n ++ bytes4 a.cut_number) at_direction.direction.ensures) (search writes), omega arith)
+    let at-number = c.before.before in
+    let at-put = at-number.before.before.before.before in
+    let at-direction = at-put.before in
+    let a = at-direction.before.before.before.args in
+    (named (ap (λ (n : ℕ). bytes4 n ++ bytes4 a.cut-number) at-direction.direction.ensures) (search writes), omega arith)
 
 pub put_end_spec : {M : Type 1} → statement M
 put_end_spec = tie.close (tie.spec (λ c κs. search rules) (λ c κs. search rules) (λ c κs. search rules) (λ c. search rules) returns)

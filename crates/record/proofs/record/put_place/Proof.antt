@@ -6,7 +6,7 @@ use Rattle.text.proofs.Writing.{writes}
 use Rattle.record.proofs.record.put_place.Statement.{statement}
 use Rattle.record.proofs.record.put_place.Tie as tie
 
-returns : tie.Need_returns
+returns : tie.Need-returns
 unfolding place_bytes
 returns c = (search writes, omega arith)
 

@@ -6,7 +6,7 @@ use Rattle.text.proofs.Writing.{writes}
 use Rattle.record.proofs.record.put_point.Statement.{statement}
 use Rattle.record.proofs.record.put_point.Tie as tie
 
-returns : tie.Need_returns
+returns : tie.Need-returns
 unfolding point_bytes
 returns c = (search writes, omega arith)
 

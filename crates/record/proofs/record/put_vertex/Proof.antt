@@ -6,7 +6,7 @@ use Rattle.text.proofs.Writing.{writes}
 use Rattle.record.proofs.record.put_vertex.Statement.{statement}
 use Rattle.record.proofs.record.put_vertex.Tie as tie
 
-returns : tie.Need_returns
+returns : tie.Need-returns
 unfolding vertex_bytes
 returns c = (search writes, omega arith)
 

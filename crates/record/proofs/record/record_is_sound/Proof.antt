@@ -5,7 +5,7 @@ use Rattle.record.specs.Record.{fields_ok}
 use Rattle.record.proofs.record.record_is_sound.Statement.{statement}
 use Rattle.record.proofs.record.record_is_sound.Tie as tie
 
-returns : tie.Need_returns
+returns : tie.Need-returns
 unfolding fields_ok
 returns c = simp (sym c.le32.ensures.0)
 

@@ -3,13 +3,13 @@ use Rattle.seg.specs.Arc.{radius_of}
 use Rattle.seg.proofs.arc.arc_radius.Statement.{statement}
 use Rattle.seg.proofs.arc.arc_radius.Tie as tie
 
-returns : tie.Need_returns
+returns : tie.Need-returns
 unfolding radius_of
 returns c =
-    let at_inv_four_bulge = c.before in
-    let at_length = at_inv_four_bulge.before in
-    let at_chord = at_length.before in
-    simp (at_chord.chord.ensures, at_length.length.ensures, at_inv_four_bulge.inv_four_bulge.ensures, c.magnitude.ensures)
+    let at-inv-four-bulge = c.before in
+    let at_length = at-inv-four-bulge.before in
+    let at-chord = at_length.before in
+    simp (at-chord.chord.ensures, at_length.length.ensures, at-inv-four-bulge.inv-four-bulge.ensures, c.magnitude.ensures)
 
 pub arc_radius_spec : {M : Type 1} → statement M
 arc_radius_spec = tie.close (tie.spec (λ c κs. tt) (λ c κs. tt) (λ c κs. tt) (λ c κs. tt) returns)

@@ -4,17 +4,17 @@ use Rattle.seg.specs.Bounds.{arc_box_by}
 use Rattle.seg.proofs.bounds.arc_box.Statement.{statement}
 use Rattle.seg.proofs.bounds.arc_box.Tie as tie
 
-crossed : tie.Need_returns_3
+crossed : tie.Need-returns-3
 unfolding arc_box_by
 crossed c =
-    let at_arc_circle = c.before in
-    let at_if2 = at_arc_circle.before in
-    let at_crosses = at_if2.before in
-    let at_if1 = at_crosses.before in
-    let at_ends_meet = at_if1.before in
-    no _ at_ends_meet.ends_meet.ensures at_if1.if1.false
-    (good _ at_crosses.crosses.ensures at_if2.if2.false
-    (rw at_arc_circle.arc_circle.ensures at c.cross_box.ensures))
+    let at-arc-circle = c.before in
+    let at-if2 = at-arc-circle.before in
+    let at-crosses = at-if2.before in
+    let at-if1 = at-crosses.before in
+    let at-ends-meet = at-if1.before in
+    no _ at-ends-meet.ends-meet.ensures at-if1.if1.false
+    (good _ at-crosses.crosses.ensures at-if2.if2.false
+    (rw at-arc-circle.arc-circle.ensures at c.cross-box.ensures))
 
 pub arc_box_spec : {M : Type 1} → statement M
 unfolding arc_box_by

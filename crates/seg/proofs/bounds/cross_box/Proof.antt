@@ -2,12 +2,12 @@
 use Rattle.seg.proofs.bounds.cross_box.Statement.{statement}
 use Rattle.seg.proofs.bounds.cross_box.Tie as tie
 
-returns : tie.Need_returns
+returns : tie.Need-returns
 returns c =
-    let at_pick3 = c.before.before in
-    let at_pick2 = at_pick3.before.before in
-    let at_pick = at_pick2.before.before in
-    simp (at_pick.pick.ensures, at_pick2.pick2.ensures, at_pick3.pick3.ensures, c.pick4.ensures)
+    let at-pick3 = c.before.before in
+    let at-pick2 = at-pick3.before.before in
+    let at-pick = at-pick2.before.before in
+    simp (at-pick.pick.ensures, at-pick2.pick2.ensures, at-pick3.pick3.ensures, c.pick4.ensures)
 
 pub cross_box_spec : {M : Type 1} → statement M
 cross_box_spec = tie.close (tie.spec (λ c κs. tt) (λ c κs. tt) (λ c κs. tt) (λ c κs. tt) returns)

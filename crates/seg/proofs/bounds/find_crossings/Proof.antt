@@ -2,12 +2,12 @@
 use Rattle.seg.proofs.bounds.find_crossings.Statement.{statement}
 use Rattle.seg.proofs.bounds.find_crossings.Tie as tie
 
-returns : tie.Need_returns
+returns : tie.Need-returns
 returns c =
-    let at_falling2 = c.before in
-    let at_falling = at_falling2.before in
-    let at_rising = at_falling.before in
-    simp (at_rising.rising.ensures, at_falling.falling.ensures, at_falling2.falling2.ensures, c.rising2.ensures)
+    let at-falling2 = c.before in
+    let at-falling = at-falling2.before in
+    let at-rising = at-falling.before in
+    simp (at-rising.rising.ensures, at-falling.falling.ensures, at-falling2.falling2.ensures, c.rising2.ensures)
 
 pub find_crossings_spec : {M : Type 1} → statement M
 find_crossings_spec = tie.close (tie.spec (λ c κs. tt) (λ c κs. tt) (λ c κs. tt) (λ c κs. tt) returns)

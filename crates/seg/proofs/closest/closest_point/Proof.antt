@@ -4,22 +4,22 @@ use Rattle.seg.specs.Closest.{closest_by}
 use Rattle.seg.proofs.closest.closest_point.Statement.{statement}
 use Rattle.seg.proofs.closest.closest_point.Tie as tie
 
-on_line : tie.Need_returns
+on_line : tie.Need-returns
 unfolding closest_by
 on_line c =
-    let at_pos2 = c.before in
-    let at_pos = at_pos2.before in
-    let at_if1 = at_pos.before in
-    let at_bulge_is_zero = at_if1.before in
-    yes _ at_bulge_is_zero.bulge_is_zero.ensures at_if1.if1.true (simp (at_pos.pos.ensures, at_pos2.pos2.ensures, c.line_seg_closest_point.ensures))
+    let at-pos2 = c.before in
+    let at_pos = at-pos2.before in
+    let at-if1 = at_pos.before in
+    let at-bulge-is-zero = at-if1.before in
+    yes _ at-bulge-is-zero.bulge-is-zero.ensures at-if1.if1.true (simp (at_pos.pos.ensures, at-pos2.pos2.ensures, c.line-seg-closest-point.ensures))
 
-on_arc : tie.Need_returns_2
+on_arc : tie.Need-returns-2
 unfolding closest_by
 on_arc c =
-    let at_arc_center = c.before in
-    let at_if1 = at_arc_center.before in
-    let at_bulge_is_zero = at_if1.before in
-    no _ at_bulge_is_zero.bulge_is_zero.ensures at_if1.if1.false (rw at_arc_center.arc_center.ensures at c.arc_closest.ensures)
+    let at-arc-center = c.before in
+    let at-if1 = at-arc-center.before in
+    let at-bulge-is-zero = at-if1.before in
+    no _ at-bulge-is-zero.bulge-is-zero.ensures at-if1.if1.false (rw at-arc-center.arc-center.ensures at c.arc-closest.ensures)
 
 pub closest_point_spec : {M : Type 1} → statement M
 closest_point_spec = tie.close (tie.spec (λ c κs. tt) (λ c κs. tt) (λ c κs. tt) (λ c κs. tt) on_line (λ c κs. tt) (λ c κs. tt) on_arc)

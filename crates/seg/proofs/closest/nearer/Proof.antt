@@ -2,12 +2,12 @@
 use Rattle.seg.proofs.closest.nearer.Statement.{statement}
 use Rattle.seg.proofs.closest.nearer.Tie as tie
 
-returns : tie.Need_returns
+returns : tie.Need-returns
 returns c =
-    let at_pos2 = c.before in
-    let at_dist_squared = at_pos2.before in
-    let at_pos = at_dist_squared.before in
-    simp (at_pos.pos.ensures, at_dist_squared.dist_squared.ensures, at_pos2.pos2.ensures, c.dist_squared2.ensures)
+    let at-pos2 = c.before in
+    let at-dist-squared = at-pos2.before in
+    let at_pos = at-dist-squared.before in
+    simp (at_pos.pos.ensures, at-dist-squared.dist-squared.ensures, at-pos2.pos2.ensures, c.dist-squared2.ensures)
 
 pub nearer_spec : {M : Type 1} → statement M
 nearer_spec = tie.close (tie.spec (λ c κs. tt) (λ c κs. tt) (λ c κs. tt) (λ c κs. tt) returns)

@@ -4,18 +4,18 @@ use Rattle.seg.specs.Distance.{arc_far_of}
 use Rattle.seg.proofs.distance.arc_far.Statement.{statement}
 use Rattle.seg.proofs.distance.arc_far.Tie as tie
 
-in_sweep : tie.Need_returns_3
+in_sweep : tie.Need-returns-3
 unfolding arc_far_of
 in_sweep c =
-    let at_dist_squared = c.before in
-    let at_arc_radius = at_dist_squared.before in
-    let at_if2 = at_arc_radius.before in
-    let at_sweeps_over = at_if2.before in
-    let at_if1 = at_sweeps_over.before in
-    let at_fuzzy_eq_eps = at_if1.before in
-    let off_center = simp at_fuzzy_eq_eps.fuzzy_eq_eps.ensures at at_if1.if1.false in
-    let in_sweep = simp at_sweeps_over.sweeps_over.ensures at at_if2.if2.false in
-    simp (off_center, in_sweep, at_arc_radius.arc_radius.ensures, at_dist_squared.dist_squared.ensures, c.ring_far.ensures)
+    let at-dist-squared = c.before in
+    let at-arc-radius = at-dist-squared.before in
+    let at-if2 = at-arc-radius.before in
+    let at-sweeps-over = at-if2.before in
+    let at-if1 = at-sweeps-over.before in
+    let at-fuzzy-eq-eps = at-if1.before in
+    let off-center = simp at-fuzzy-eq-eps.fuzzy-eq-eps.ensures at at-if1.if1.false in
+    let in_sweep = simp at-sweeps-over.sweeps-over.ensures at at-if2.if2.false in
+    simp (off-center, in_sweep, at-arc-radius.arc-radius.ensures, at-dist-squared.dist-squared.ensures, c.ring-far.ensures)
 
 pub arc_far_spec : {M : Type 1} → statement M
 unfolding arc_far_of

@@ -4,23 +4,23 @@ use Rattle.seg.specs.Distance.{seg_far}
 use Rattle.seg.proofs.distance.seg_distance_is_greater_than.Statement.{statement}
 use Rattle.seg.proofs.distance.seg_distance_is_greater_than.Tie as tie
 
-answered : tie.Need_returns_5
+answered : tie.Need-returns-5
 unfolding seg_far
 answered c =
-    let at_magnitude = c.before in
-    let at_if4 = at_magnitude.before in
-    let at_tol_and_limit_in_range = at_if4.before in
-    let at_if3 = at_tol_and_limit_in_range.before in
-    let at_coord_in_range = at_if3.before in
-    let at_if2 = at_coord_in_range.before in
-    let at_point_in_range = at_if2.before in
-    let at_if1 = at_point_in_range.before in
-    let at_seg_in_range = at_if1.before in
-    good _ at_seg_in_range.seg_in_range.ensures at_if1.if1.false
-    (good _ at_point_in_range.point_in_range.ensures at_if2.if2.false
-    (good _ at_coord_in_range.coord_in_range.ensures at_if3.if3.false
-    (good _ at_tol_and_limit_in_range.tol_and_limit_in_range.ensures at_if4.if4.false
-    (given_is (rw at_magnitude.magnitude.ensures at c.far.ensures)))))
+    let at-magnitude = c.before in
+    let at-if4 = at-magnitude.before in
+    let at-tol-and-limit-in-range = at-if4.before in
+    let at-if3 = at-tol-and-limit-in-range.before in
+    let at-coord-in-range = at-if3.before in
+    let at-if2 = at-coord-in-range.before in
+    let at-point-in-range = at-if2.before in
+    let at-if1 = at-point-in-range.before in
+    let at-seg-in-range = at-if1.before in
+    good _ at-seg-in-range.seg-in-range.ensures at-if1.if1.false
+    (good _ at-point-in-range.point-in-range.ensures at-if2.if2.false
+    (good _ at-coord-in-range.coord-in-range.ensures at-if3.if3.false
+    (good _ at-tol-and-limit-in-range.tol-and-limit-in-range.ensures at-if4.if4.false
+    (given_is (rw at-magnitude.magnitude.ensures at c.far.ensures)))))
 
 pub seg_distance_is_greater_than_spec : {M : Type 1} → statement M
 unfolding seg_far

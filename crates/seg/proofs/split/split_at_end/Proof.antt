@@ -2,7 +2,7 @@
 use Rattle.seg.proofs.split.split_at_end.Statement.{statement}
 use Rattle.seg.proofs.split.split_at_end.Tie as tie
 
-returns : tie.Need_returns
+returns : tie.Need-returns
 returns c =
     let at_pos = c.before in
     simp (at_pos.pos.ensures, c.split_at.ensures)

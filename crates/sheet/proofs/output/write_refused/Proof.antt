@@ -5,11 +5,11 @@ use Rattle.text.proofs.Writing.{begins}
 use Rattle.sheet.proofs.output.write_refused.Statement.{statement}
 use Rattle.sheet.proofs.output.write_refused.Tie as tie
 
-hand_whole_requires : tie.Need_hand_whole_requires
+hand_whole_requires : tie.Need-hand-whole-requires
 hand_whole_requires c κs =
-    let at_refused = c.before.before in
-    let b = begins at_refused.refused_sheet.ensures in
-    record { room = b.room; is = b.is ∙ at_refused.before.before.before.requires }
+    let at-refused = c.before.before in
+    let b = begins at-refused.refused-sheet.ensures in
+    record { room = b.room; is = b.is ∙ at-refused.before.before.before.requires }
 
 pub write_refused_spec : {M : Type 1} → statement M
 write_refused_spec = tie.close (tie.spec (λ c κs. search rules) hand_whole_requires (λ c. search rules))

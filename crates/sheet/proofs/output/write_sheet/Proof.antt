@@ -2,8 +2,8 @@
 use mathlib.Core.Path.{sym, ap, ◌∙◌}
 use mathlib.Core.List.{List}
 use native.Mathlib.Omega.{arith}
-use lib.ListN.{length, length_replicate, replicate, take}
-use lib.Seq.{length_take_le}
+use lib.ListN.{length, length-replicate, replicate, take}
+use lib.Seq.{length-take-le}
 use borrow.Author.Rules.{rules}
 use lib.Ieee.{Float, of_bits, binary64}
 use Rattle.job.specs.Rows.{joined}
@@ -14,36 +14,36 @@ use Rattle.job.proofs.Whole.{parts_whole, refused_whole}
 use Rattle.sheet.proofs.output.write_sheet.Statement.{statement}
 use Rattle.sheet.proofs.output.write_sheet.Tie as tie
 
-write_refused_requires : tie.Need_write_refused_requires
+write_refused_requires : tie.Need-write-refused-requires
 write_refused_requires c κs =
-    let at_answer = c.before.before in
-    let at_open = at_answer.before.before in
-    refused_whole _ _ (sym at_open.open_sheet.ensures.0 ∙ ap open_reply at_answer.answer.given.1)
+    let at-answer = c.before.before in
+    let at_open = at-answer.before.before in
+    refused_whole _ _ (sym at_open.open-sheet.ensures.0 ∙ ap open_reply at-answer.answer.given.1)
 
-array_share_prefix_outline : tie.Need_array_share_prefix_outline
+array_share_prefix_outline : tie.Need-array-share-prefix-outline
 array_share_prefix_outline c =
-    let at_answer = c.before in
-    let o = at_answer.before.before.open_sheet in
-    let e = sym o.ensures.0 ∙ ap open_reply at_answer.answer2.given.1 in
-    let n = ap length o.ensures.1 ∙ opened_length _ _ e _ (length_replicate outline_numbers (of_bits binary64 0)) in
+    let at-answer = c.before in
+    let o = at-answer.before.before.open-sheet in
+    let e = sym o.ensures.0 ∙ ap open_reply at-answer.answer2.given.1 in
+    let n = ap length o.ensures.1 ∙ opened_length _ _ e _ (length-replicate outline_numbers (of_bits binary64 0)) in
     omega (arith, opened_few _ _ e, n)
 
-slice_aggregate_write_parts : tie.Need_slice_aggregate_write_parts
+slice_aggregate_write_parts : tie.Need-slice-aggregate-write-parts
 slice_aggregate_write_parts c =
-    let at_answer = c.before.before in
-    let o = at_answer.before.before.open_sheet in
-    let e = sym o.ensures.0 ∙ ap open_reply at_answer.answer2.given.1 in
-    let n = ap length o.ensures.1 ∙ opened_length _ _ e _ (length_replicate outline_numbers (of_bits binary64 0)) in
-    sym (length_take_le _ _ (omega (arith, opened_few _ _ e, n)))
+    let at-answer = c.before.before in
+    let o = at-answer.before.before.open-sheet in
+    let e = sym o.ensures.0 ∙ ap open_reply at-answer.answer2.given.1 in
+    let n = ap length o.ensures.1 ∙ opened_length _ _ e _ (length-replicate outline_numbers (of_bits binary64 0)) in
+    sym (length-take-le _ _ (omega (arith, opened_few _ _ e, n)))
 
-write_parts_requires : tie.Need_write_parts_requires
+write_parts_requires : tie.Need-write-parts-requires
 write_parts_requires c κs =
-    let at_answer = c.before.before.before in
-    let at_open = at_answer.before.before in
-    let o = at_open.open_sheet in
+    let at-answer = c.before.before.before in
+    let at_open = at-answer.before.before in
+    let o = at_open.open-sheet in
     let b = at_open.before.before.before.args.bytes.now in
-    let p = at_answer.answer2.given.0.0 in
-    let e = sym o.ensures.0 ∙ ap open_reply at_answer.answer2.given.1 in
+    let p = at-answer.answer2.given.0.0 in
+    let e = sym o.ensures.0 ∙ ap open_reply at-answer.answer2.given.1 in
     ap (λ (l : List Float). joined (part_text b (take p.numbers l)) p.parts) o.ensures.1 ∙ parts_whole b (replicate outline_numbers (of_bits binary64 0)) p e
 
 pub write_sheet_spec : {M : Type 1} → statement M

@@ -6,7 +6,7 @@ use borrow.Author.Rules.{rules}
 use Rattle.text.proofs.decimal.put_eight.Statement.{statement}
 use Rattle.text.proofs.decimal.put_eight.Tie as tie
 
-returns : tie.Need_returns
+returns : tie.Need-returns
 returns c = (named (halves 4 _ (omega arith)) (search writes), omega arith)
 
 pub put_eight_spec : {M : Type 1} → statement M

@@ -6,7 +6,7 @@ use borrow.Author.Rules.{rules}
 use Rattle.text.proofs.decimal.put_four.Statement.{statement}
 use Rattle.text.proofs.decimal.put_four.Tie as tie
 
-returns : tie.Need_returns
+returns : tie.Need-returns
 returns c = (named (halves 2 _ (omega arith)) (search writes), omega arith)
 
 pub put_four_spec : {M : Type 1} → statement M

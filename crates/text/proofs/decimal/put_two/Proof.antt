@@ -3,14 +3,14 @@ use mathlib.Core.Path.{◌≡◌, refl, ap}
 use mathlib.Core.List.{[], ◌∷◌}
 use Prim.Native.Nat.{ℕ, ◌/◌, ◌%◌}
 use native.Mathlib.Omega.{arith}
-use lib.ListN.{length_set}
+use lib.ListN.{length-set}
 use Rattle.text.specs.Digits.{digit, digits}
 use Rattle.text.proofs.Writing.{two, named}
 use borrow.Author.Rules.{rules}
 use Rattle.text.proofs.decimal.put_two.Statement.{statement}
 use Rattle.text.proofs.decimal.put_two.Tie as tie
 
-returns : tie.Need_returns
+returns : tie.Need-returns
 unfolding digits
 returns c =
     let n = c.args.n in
@@ -27,7 +27,7 @@ put_two_spec =
     (λ c. search rules)
     (λ c. search rules)
     (λ c. search rules)
-    (λ c. simp length_set (omega arith))
+    (λ c. simp length-set (omega arith))
     (λ c. search rules)
     (λ c. search rules)
     returns)

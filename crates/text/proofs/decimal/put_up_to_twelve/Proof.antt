@@ -7,10 +7,10 @@ use borrow.Author.Rules.{rules}
 use Rattle.text.proofs.decimal.put_up_to_twelve.Statement.{statement}
 use Rattle.text.proofs.decimal.put_up_to_twelve.Tie as tie
 
-returns : tie.Need_returns
+returns : tie.Need-returns
 returns c = (search writes, omega arith)
 
-returns_2 : tie.Need_returns_2
+returns_2 : tie.Need-returns-2
 returns_2 c = (named (front 8 11 _ refl (omega arith) (omega arith) (omega arith)) (search writes), omega arith)
 
 pub put_up_to_twelve_spec : {M : Type 1} → statement M

@@ -1,14 +1,14 @@
 -- Eight stores of the bytes of one number, which are the eight digits.
 use mathlib.Core.Path.{refl}
 use native.Mathlib.Omega.{arith}
-use lib.ListN.{length_set}
+use lib.ListN.{length-set}
 use borrow.Author.Rules.{rules}
 use Rattle.text.proofs.Writing.{eight, named}
 use Rattle.text.proofs.Spread.{hex_bytes}
 use Rattle.text.proofs.hex.put_hex8.Statement.{statement}
 use Rattle.text.proofs.hex.put_hex8.Tie as tie
 
-returns : tie.Need_returns
+returns : tie.Need-returns
 returns c = (named (hex_bytes c.before.before.args.x c.glyphs.result c.glyphs.ensures) (eight _ _ _ _ _ _ _ _ _ _), refl)
 
 pub put_hex8_spec : {M : Type 1} → statement M
@@ -20,25 +20,25 @@ put_hex8_spec =
     (λ c. search rules)
     (λ c. search rules)
     (λ c. search rules)
-    (λ c. simp length_set (omega arith))
+    (λ c. simp length-set (omega arith))
     (λ c. search rules)
     (λ c. search rules)
-    (λ c. simp length_set (omega arith))
+    (λ c. simp length-set (omega arith))
     (λ c. search rules)
     (λ c. search rules)
-    (λ c. simp length_set (omega arith))
+    (λ c. simp length-set (omega arith))
     (λ c. search rules)
     (λ c. search rules)
-    (λ c. simp length_set (omega arith))
+    (λ c. simp length-set (omega arith))
     (λ c. search rules)
     (λ c. search rules)
-    (λ c. simp length_set (omega arith))
+    (λ c. simp length-set (omega arith))
     (λ c. search rules)
     (λ c. search rules)
-    (λ c. simp length_set (omega arith))
+    (λ c. simp length-set (omega arith))
     (λ c. search rules)
     (λ c. search rules)
-    (λ c. simp length_set (omega arith))
+    (λ c. simp length-set (omega arith))
     (λ c. search rules)
-    (λ c. simp length_set)
+    (λ c. simp length-set)
     returns)

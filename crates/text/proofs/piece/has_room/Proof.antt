@@ -2,15 +2,15 @@
 use mathlib.Core.Path.{sym}
 use Prim.Native.Nat.{◌+◌}
 use native.Mathlib.Omega.{arith}
-use borrow.Author.Tests.{lt_leb}
+use borrow.Author.Tests.{lt-leb}
 use Rattle.text.proofs.Writing.{behind}
 use Rattle.text.proofs.piece.has_room.Statement.{statement}
 use Rattle.text.proofs.piece.has_room.Tie as tie
 
-returns : tie.Need_returns
-returns c = let a = c.before.args in sym (lt_leb (a.at + a.n) a.len (omega arith))
+returns : tie.Need-returns
+returns c = let a = c.before.args in sym (lt-leb (a.at + a.n) a.len (omega arith))
 
-returns_2 : tie.Need_returns_2
+returns_2 : tie.Need-returns-2
 returns_2 c = let a = c.before.args in behind a.at a.n a.len (omega arith)
 
 pub has_room_spec : {M : Type 1} → statement M

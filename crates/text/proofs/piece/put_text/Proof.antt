@@ -6,15 +6,15 @@ use Rattle.text.proofs.Writing.{roomy, allowed, refused}
 use Rattle.text.proofs.piece.put_text.Statement.{statement}
 use Rattle.text.proofs.piece.put_text.Tie as tie
 
-returns : tie.Need_returns
+returns : tie.Need-returns
 returns c = refused c.before.has_room.ensures c.if1.true refl
 
-copy_requires : tie.Need_copy_requires
+copy_requires : tie.Need-copy-requires
 copy_requires c κs =
     let at_room = c.before in
     roomy at_room.before.has_room.ensures at_room.if1.false
 
-returns_2 : tie.Need_returns_2
+returns_2 : tie.Need-returns-2
 returns_2 c =
     let at_copy = c.before.before in
     let at_room = at_copy.before.before in

@@ -3,7 +3,7 @@ use mathlib.Core.Path.{◌≡◌, refl, sym, ap, ◌∙◌}
 use mathlib.Core.List.{List, ◌++◌}
 use Prim.Native.Nat.{ℕ, ◌-◌, ◌*◌, ◌≤◌}
 use native.Mathlib.Omega.{arith}
-use native.Mathlib.Numerals.{add_one}
+use native.Mathlib.Numerals.{add-one}
 use borrow.Author.Rules.{rules}
 use lib.ListN.{length, drop}
 use lib.Ieee.{Float, neg}
@@ -31,24 +31,24 @@ invariant_loop source d out₀ n k₀ out k = (k ≤ n) × (length out ≡ lengt
 abbrev decreases_loop : tie.decreases_loop
 decreases_loop source d out₀ n k₀ out k = n - k
 
-loop_holds : tie.Need_loop_init invariant_loop decreases_loop
+loop_holds : tie.Need-loop-init invariant_loop decreases_loop
 unfolding flat tab
 loop_holds c = (omega arith, refl, refl)
 
-loop_again : tie.Need_loop_preserved invariant_loop decreases_loop
+loop_again : tie.Need-loop-preserved invariant_loop decreases_loop
 loop_again c =
-    let at_loop = c.before.before.before.before.before.before in
-    let a = at_loop.before.before.before.before.args in
-    let k = at_loop.loop.k in
+    let at-loop = c.before.before.before.before.before.before in
+    let a = at-loop.before.before.before.before.args in
+    let k = at-loop.loop.k in
     let put = c.before.before.put in (
       omega arith,
-      put.auto.0 ∙ at_loop.loop.invariant.1,
-      simp (at_loop.loop.invariant.2, c.before.before.before.before.vertex_of.ensures) at put.ensures
+      put.auto.0 ∙ at-loop.loop.invariant.1,
+      simp (at-loop.loop.invariant.2, c.before.before.before.before.vertex-of.ensures) at put.ensures
           ∙ flat_put (vertex a.source.now a.d) k a.out.now (omega arith)
-          ∙ ap (after a.source.now a.d a.out.now) (sym (add_one k)),
+          ∙ ap (after a.source.now a.d a.out.now) (sym (add-one k)),
     )
 
-returns : tie.Need_returns invariant_loop decreases_loop
+returns : tie.Need-returns invariant_loop decreases_loop
 unfolding written view_list
 returns c =
     let a = c.before.before.before.before.before.args in

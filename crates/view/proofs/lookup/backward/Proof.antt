@@ -9,37 +9,37 @@ use Rattle.lists.proofs.Views.{back_first, back_inner, back_final, back_past}
 use Rattle.view.proofs.lookup.backward.Statement.{statement}
 use Rattle.view.proofs.lookup.backward.Tie as tie
 
-returns : tie.Need_returns
+returns : tie.Need-returns
 returns c =
-    let at_then1 = c.before.before.before in
-    let a = at_then1.before.before.args in
+    let at-then1 = c.before.before.before in
+    let a = at-then1.before.before.args in
     let s = a.source.now in
-    simp (c.from_vector2.ensures, at_then1.if1.true, back_first neg double.zero (src_of s) (count_of s) (view_of a.d))
+    simp (c.from-vector2.ensures, at-then1.if1.true, back_first neg double.zero (src_of s) (count_of s) (view_of a.d))
 
-returns_2 : tie.Need_returns_2
+returns_2 : tie.Need-returns-2
 returns_2 c =
-    let at_then2 = c.before.before in
-    let at_else1 = at_then2.before in
-    let a = at_else1.before.before.args in
+    let at-then2 = c.before.before in
+    let at-else1 = at-then2.before in
+    let a = at-else1.before.before.args in
     let s = a.source.now in
-    simp (c.turned_after.ensures, c.before.fwd_wrapping_index.ensures.is, back_inner neg double.zero (src_of s) (count_of s) (view_of a.d) a.k (omega arith) (omega arith))
+    simp (c.turned-after.ensures, c.before.fwd-wrapping-index.ensures.is, back_inner neg double.zero (src_of s) (count_of s) (view_of a.d) a.k (omega arith) (omega arith))
 
-returns_3 : tie.Need_returns_3
+returns_3 : tie.Need-returns-3
 returns_3 c =
     let at_past = c.before.before in
-    let at_then3 = at_past.before in
-    let at_else1 = at_then3.before.before.before in
-    let a = at_else1.before.before.args in
+    let at-then3 = at_past.before in
+    let at-else1 = at-then3.before.before.before in
+    let a = at-else1.before.before.args in
     let s = a.source.now in
-    simp (c.with_bulge.ensures, at_past.vertex_past.ensures, back_final neg double.zero (src_of s) (count_of s) (view_of a.d) a.k (omega arith) at_then3.if3.true)
+    simp (c.with-bulge.ensures, at_past.vertex-past.ensures, back_final neg double.zero (src_of s) (count_of s) (view_of a.d) a.k (omega arith) at-then3.if3.true)
 
-returns_4 : tie.Need_returns_4
+returns_4 : tie.Need-returns-4
 returns_4 c =
-    let at_else3 = c.before in
-    let at_else1 = at_else3.before.before.before in
-    let a = at_else1.before.before.args in
+    let at-else3 = c.before in
+    let at-else1 = at-else3.before.before.before in
+    let a = at-else1.before.before.args in
     let s = a.source.now in
-    simp (c.with_bulge2.ensures, back_past neg double.zero (src_of s) (count_of s) (view_of a.d) a.k (omega arith))
+    simp (c.with-bulge2.ensures, back_past neg double.zero (src_of s) (count_of s) (view_of a.d) a.k (omega arith))
 
 pub backward_spec : {M : Type 1} → statement M
 backward_spec =

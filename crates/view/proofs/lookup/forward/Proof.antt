@@ -10,35 +10,35 @@ use Rattle.lists.proofs.Views.{at_first, at_inner, at_final, at_past}
 use Rattle.view.proofs.lookup.forward.Statement.{statement}
 use Rattle.view.proofs.lookup.forward.Tie as tie
 
-returns : tie.Need_returns
+returns : tie.Need-returns
 returns c =
     let a = c.before.before.before.args in
     let s = a.source.now in
     simp (c.before.if1.true, at_first double.zero (src_of s) (count_of s) (view_of a.d))
 
-returns_2 : tie.Need_returns_2
+returns_2 : tie.Need-returns-2
 returns_2 c =
-    let at_else1 = c.before.before in
-    let a = at_else1.before.before.args in
+    let at-else1 = c.before.before in
+    let a = at-else1.before.before.args in
     let s = a.source.now in
-    simp (c.vertex_past.ensures, at_inner double.zero (src_of s) (count_of s) (view_of a.d) a.k (omega arith) (omega arith))
+    simp (c.vertex-past.ensures, at_inner double.zero (src_of s) (count_of s) (view_of a.d) a.k (omega arith) (omega arith))
 
-returns_3 : tie.Need_returns_3
+returns_3 : tie.Need-returns-3
 returns_3 c =
-    let at_then3 = c.before.before in
-    let at_else1 = at_then3.before.before in
-    let a = at_else1.before.before.args in
+    let at-then3 = c.before.before in
+    let at-else1 = at-then3.before.before in
+    let a = at-else1.before.before.args in
     let s = a.source.now in
-    simp (c.with_bulge.ensures, c.before.vertex_past2.ensures, at_then3.if3.true, at_final double.zero (src_of s) (count_of s) (view_of a.d) (omega arith))
+    simp (c.with-bulge.ensures, c.before.vertex-past2.ensures, at-then3.if3.true, at_final double.zero (src_of s) (count_of s) (view_of a.d) (omega arith))
 
-returns_4 : tie.Need_returns_4
+returns_4 : tie.Need-returns-4
 returns_4 c =
-    let at_else3 = c.before.before in
-    let at_else1 = at_else3.before.before in
-    let a = at_else1.before.before.args in
+    let at-else3 = c.before.before in
+    let at-else1 = at-else3.before.before in
+    let a = at-else1.before.before.args in
     let s = a.source.now in
     let e : a.k ≡ a.d.end_index_offset + 1 = omega arith in
-    simp (c.from_vector2.ensures, e, at_past double.zero (src_of s) (count_of s) (view_of a.d))
+    simp (c.from-vector2.ensures, e, at_past double.zero (src_of s) (count_of s) (view_of a.d))
 
 pub forward_spec : {M : Type 1} → statement M
 forward_spec =

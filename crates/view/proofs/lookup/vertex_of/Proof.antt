@@ -4,11 +4,11 @@ use Rattle.lists.specs.View.{vertex_at_of}
 use Rattle.view.proofs.lookup.vertex_of.Statement.{statement}
 use Rattle.view.proofs.lookup.vertex_of.Tie as tie
 
-returns : tie.Need_returns
+returns : tie.Need-returns
 unfolding vertex_at_of
 returns c = simp (c.backward.ensures, c.before.if1.true)
 
-returns_2 : tie.Need_returns_2
+returns_2 : tie.Need-returns-2
 unfolding vertex_at_of
 returns_2 c = simp (c.forward.ensures, c.before.if1.false)
 

@@ -6,23 +6,23 @@ use Rattle.view.specs.Create.{moved_on}
 use Rattle.view.proofs.new_start.move_on.Statement.{statement}
 use Rattle.view.proofs.new_start.move_on.Tie as tie
 
-returns : tie.Need_returns
+returns : tie.Need-returns
 unfolding moved_on
 returns c =
     let test = c.before in
     let next = test.before.before.before in
     record {
-      is = yes _ (simp (test.before.pos.ensures, test.before.before.vertex_at.ensures, next.fwd_wrapping_index.ensures.is) at test.fuzzy_eq_eps.ensures) c.if1.true next.fwd_wrapping_index.ensures.is;
-      below = next.fwd_wrapping_index.ensures.below;
+      is = yes _ (simp (test.before.pos.ensures, test.before.before.vertex-at.ensures, next.fwd-wrapping-index.ensures.is) at test.fuzzy-eq-eps.ensures) c.if1.true next.fwd-wrapping-index.ensures.is;
+      below = next.fwd-wrapping-index.ensures.below;
     }
 
-returns_2 : tie.Need_returns_2
+returns_2 : tie.Need-returns-2
 unfolding moved_on
 returns_2 c =
     let test = c.before in
     let next = test.before.before.before in
     record {
-      is = no _ (simp (test.before.pos.ensures, test.before.before.vertex_at.ensures, next.fwd_wrapping_index.ensures.is) at test.fuzzy_eq_eps.ensures) c.if1.false refl;
+      is = no _ (simp (test.before.pos.ensures, test.before.before.vertex-at.ensures, next.fwd-wrapping-index.ensures.is) at test.fuzzy-eq-eps.ensures) c.if1.false refl;
       below = next.before.before.requires.index;
     }
 

@@ -4,19 +4,19 @@ use Rattle.view.specs.Create.{round_ending_of}
 use Rattle.view.proofs.new_start.round_ending.Statement.{statement}
 use Rattle.view.proofs.new_start.round_ending.Tie as tie
 
-returns : tie.Need_returns
+returns : tie.Need-returns
 unfolding round_ending_of
 returns c =
-    let at_then = c.before in
-    let test = at_then.before in
-    let near = simp (test.before.pos.ensures, test.before.before.before.vertex_at.ensures, test.fuzzy_eq_eps.ensures) at at_then.if1.true in
-    simp (near, c.vertex_past.ensures)
+    let at-then = c.before in
+    let test = at-then.before in
+    let near = simp (test.before.pos.ensures, test.before.before.before.vertex-at.ensures, test.fuzzy-eq-eps.ensures) at at-then.if1.true in
+    simp (near, c.vertex-past.ensures)
 
-returns_2 : tie.Need_returns_2
+returns_2 : tie.Need-returns-2
 unfolding round_ending_of
 returns_2 c =
     let test = c.before in
-    let apart = simp (test.before.pos.ensures, test.before.before.before.vertex_at.ensures, test.fuzzy_eq_eps.ensures) at c.if1.false in
+    let apart = simp (test.before.pos.ensures, test.before.before.before.vertex-at.ensures, test.fuzzy-eq-eps.ensures) at c.if1.false in
     simp apart
 
 pub round_ending_spec : {M : Type 1} → statement M

@@ -17,24 +17,24 @@ invariant_loop source count k₀ k = (k ≤ count) × (all (λ i. vertex_ok doub
 abbrev decreases_loop : tie.decreases_loop
 decreases_loop source count k₀ k = count - k
 
-loop_holds : tie.Need_loop_init invariant_loop decreases_loop
+loop_holds : tie.Need-loop-init invariant_loop decreases_loop
 unfolding all
 loop_holds c = (omega arith, refl)
 
-returns : tie.Need_returns invariant_loop decreases_loop
+returns : tie.Need-returns invariant_loop decreases_loop
 unfolding numbers_ok
 returns c =
-    sym (all_not _ _ c.before.before.before.before.loop.k c.before.before.before.loop_test.true
-    (failed (simp c.before.before.vertex_at.ensures at c.before.vertex_in_range.ensures) c.if1.true))
+    sym (all_not _ _ c.before.before.before.before.loop.k c.before.before.before.loop-test.true
+    (failed (simp c.before.before.vertex-at.ensures at c.before.vertex-in-range.ensures) c.if1.true))
 
-loop_again : tie.Need_loop_preserved invariant_loop decreases_loop
+loop_again : tie.Need-loop-preserved invariant_loop decreases_loop
 loop_again c = (
   omega arith,
   all_more _ c.before.before.before.before.loop.k c.before.before.before.before.loop.invariant.1
-      (passed (simp c.before.before.vertex_at.ensures at c.before.vertex_in_range.ensures) c.if1.false),
+      (passed (simp c.before.before.vertex-at.ensures at c.before.vertex-in-range.ensures) c.if1.false),
 )
 
-returns_2 : tie.Need_returns_2 invariant_loop decreases_loop
+returns_2 : tie.Need-returns-2 invariant_loop decreases_loop
 unfolding numbers_ok
 returns_2 c =
     let s = c.before.before.before.args.source.now in

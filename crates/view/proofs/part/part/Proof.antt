@@ -4,11 +4,11 @@ use Rattle.lists.specs.View.{part}
 use Rattle.view.proofs.part.part.Statement.{statement}
 use Rattle.view.proofs.part.part.Tie as tie
 
-returns : tie.Need_returns
+returns : tie.Need-returns
 unfolding part
 returns c =
     let b = c.before.before.before.before in
-    simp (b.fwd_wrapping_index.ensures.is, c.before.before.before.forward.ensures, c.before.before.forward2.ensures, c.before.forward3.ensures, c.pos.ensures)
+    simp (b.fwd-wrapping-index.ensures.is, c.before.before.before.forward.ensures, c.before.before.forward2.ensures, c.before.forward3.ensures, c.pos.ensures)
 
 pub part_spec : {M : Type 1} → statement M
 part_spec =

@@ -4,11 +4,11 @@ use Rattle.lists.specs.View.{trim_view}
 use Rattle.view.proofs.part.trimmed.Statement.{statement}
 use Rattle.view.proofs.part.trimmed.Tie as tie
 
-returns : tie.Need_returns
+returns : tie.Need-returns
 unfolding trim_view
 returns c = simp (c.part.ensures, c.before.if1.true)
 
-returns_2 : tie.Need_returns_2
+returns_2 : tie.Need-returns-2
 unfolding trim_view
 returns_2 c = simp (c.part2.ensures, c.before.if1.false)
 

@@ -4,17 +4,17 @@ use Rattle.view.specs.Validation.{end_verdict}
 use Rattle.view.proofs.validate.judge_end.Statement.{statement}
 use Rattle.view.proofs.validate.judge_end.Tie as tie
 
-returns_2 : tie.Need_returns_2
+returns_2 : tie.Need-returns-2
 unfolding end_verdict
-returns_2 c = let near = simp c.before.before.pos.ensures at c.before.fuzzy_eq_eps.ensures in search picks
+returns_2 c = let near = simp c.before.before.pos.ensures at c.before.fuzzy-eq-eps.ensures in search picks
 
-returns_3 : tie.Need_returns_3
+returns_3 : tie.Need-returns-3
 unfolding end_verdict
-returns_3 c = let test = c.before.before.before in let near = simp test.before.pos.ensures at test.fuzzy_eq_eps.ensures in search picks
+returns_3 c = let test = c.before.before.before in let near = simp test.before.pos.ensures at test.fuzzy-eq-eps.ensures in search picks
 
-returns_4 : tie.Need_returns_4
+returns_4 : tie.Need-returns-4
 unfolding end_verdict
-returns_4 c = let test = c.before.before.before in let near = simp test.before.pos.ensures at test.fuzzy_eq_eps.ensures in search picks
+returns_4 c = let test = c.before.before.before in let near = simp test.before.pos.ensures at test.fuzzy-eq-eps.ensures in search picks
 
 pub judge_end_spec : {M : Type 1} → statement M
 unfolding end_verdict

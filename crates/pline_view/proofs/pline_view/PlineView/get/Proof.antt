@@ -20,7 +20,7 @@ use contract.Running.{tables, tables_of}
 use types.Kit.{‵, raw, ◌⊛◌, given, ⋆, some, later, ◌$◌, ◌∵◌, !, qed, by, move, drop, use1, use2, split, join, learn, pick, fsplit, fjoin, suffices, frame, await, done}
 use types.Part.{whole, sub, look_in}
 use types.Run.{look, init, forget, stop, fld, from, load, of_opd, and_then, no_more, assigns, land, returns, enter, alloc1, alloc0, params1, pass1, pass0, free1, free0}
-use sound.WpLaws.{FmC, fm_of, WpFn_mono}
+use sound.WpLaws.{FmC, fm_of, WpFn-mono}
 use denote.RattleType.{RattleType, owns}
 use denote.Laws.{Is, shows}
 use denote.Plain.{uint_Makes, uint_vals, uint_Tells}
@@ -38,7 +38,7 @@ use denote.Triple.Call.{calls_at}
 use denote.Triple.Entry.{Vals, on_entry}
 use denote.Triple.Spec.{Meets, triple_of}
 use denote.Triple.Table.{entered, cited}
-use denote.Triple.Walked.{says, Stays, stay_none, walk_of, Goes_none, Walks, ends_at, walked, walk_Meets}
+use denote.Triple.Walked.{says, Stays, stay_none, walk_of, Goes-none, Walks, ends_at, walked, walk_Meets}
 use denote.Exit.{yes}
 use denote.Triple.Clauses.{ensured, lasts}
 use Rattle.real.specs.Reply.{Reply}
@@ -55,9 +55,9 @@ use Rattle.view.proofs.view_data.PlineViewData.TheLaws as D₀'
 use Rattle.plane.specs.contracts.pline_vertex.VertexAnswer as S
 use Rattle.plane.proofs.pline_vertex.VertexAnswer.TheLaws as S'
 use Rattle.view.specs.contracts.view_data.PlineViewData.get_vertex as got
-use Rattle.view.proofs.view_data.PlineViewData.get_vertex.Symbol as got_def
-use Rattle.view.proofs.view_data.PlineViewData.get_vertex.Symbol.{name as #get_vertex}
-use Rattle.view.proofs.view_data.PlineViewData.get_vertex.Met as got_thm
+use Rattle.view.proofs.view_data.PlineViewData.get_vertex.Symbol as got-def
+use Rattle.view.proofs.view_data.PlineViewData.get_vertex.Symbol.{name as #get-vertex}
+use Rattle.view.proofs.view_data.PlineViewData.get_vertex.Met as got-thm
 use Rattle.pline_view.specs.contracts.pline_view.PlineView.get.Key.{name as #get}
 use Rattle.pline_view.specs.contracts.pline_view.PlineView.get as this
 use Rattle.pline_view.proofs.pline_view.PlineView.get.Statement as stated
@@ -140,7 +140,7 @@ module _ {M : Type 1} {𝓤 : Ura M} (𝓛 : Logic 𝓤) (mem : Memory → SProp
       suffices ! _ (ends_at 𝓛 this.ended stayed (this.clauses 𝓛 mem run) (((κ, tt), (q, tt), tt, (d, (k, tt)), at), tt) u r (tt, (tt, tt)) (tt, (tt, tt))) $ says ! e $
       move ! (1 ∷ []) $ frame ! $ nothing ! $ owned ! usize (Is usize) (uint_Makes 𝓛 w64) k _ (refl, fits) $ fjoin ! $ move ! (2 ∷ 0 ∷ []) $ fjoin ! $ frame ! $ done !
 
-  module _ (C : Calls 𝓤 H) (Λ : Loops 𝓤 H) (fm : FmC 𝓤 H 𝓛.laws C) (known : Triple 𝓤 (C #get_vertex) (Callee 𝓛 mem run)) where
+  module _ (C : Calls 𝓤 H) (Λ : Loops 𝓤 H) (fm : FmC 𝓤 H 𝓛.laws C) (known : Triple 𝓤 (C #get-vertex) (Callee 𝓛 mem run)) where
     walk : Holds (has_ty (T'.mir (named 0)) mach) × WT mach → k < 2 ^ 64 → ent 𝓤 (on_entry 𝓛 this.signature (κ, tt) (q, tt) (d, (k, tt)) at) (WpFn 𝓤 H C Λ code.function (mach ∷ vint w64 k ∷ []) Post)
     walk wt fits =
         qed 𝓛 (raw (on_entry 𝓛 this.signature (κ, tt) (q, tt) (d, (k, tt)) at) ∷ []) ∵ enter ! C Λ code.function (mach ∷ vint w64 k ∷ []) _ $
@@ -160,15 +160,15 @@ module _ {M : Type 1} {𝓤 : Ura M} (𝓛 : Logic 𝓤) (mem : Memory → SProp
 module _ {M : Type 1} {𝓤 : Ura M} (𝓛 : Logic 𝓤) (mem : Memory → SProp 𝓤) (run : Routine → Fun 𝓤) where
   open 𝓛 use {H}
 
-  get_walks : (C : Calls 𝓤 H) (Λ : Loops 𝓤 H) → FmC 𝓤 H 𝓛.laws C → Triple 𝓤 (C #get_vertex) (Callee 𝓛 mem run)
+  get_walks : (C : Calls 𝓤 H) (Λ : Loops 𝓤 H) → FmC 𝓤 H 𝓛.laws C → Triple 𝓤 (C #get-vertex) (Callee 𝓛 mem run)
       → Walks 𝓛 this.ended stayed (WpFn 𝓤 H C Λ code.function) (this.clauses 𝓛 mem run)
   get_walks C Λ fm known = walked 𝓛 this.ended stayed (this.clauses 𝓛 mem run) (WpFn 𝓤 H C Λ code.function) (λ κs. (LL.vals (T.the_type (named_lft 1 0 tt κs)) (T'.the_laws (named_lft 1 0 tt κs)), (uint_vals w64, tt))) (λ κs. (LL.tells (T.the_type (named_lft 1 0 tt κs)) (T'.the_laws (named_lft 1 0 tt κs)), (uint_Tells w64, tt)))
       (λ κs qs bounds a g are. via 𝓤 _ (fst∗ 𝓤 _ (emp 𝓤)) (walk 𝓛 mem run κs.0 qs.0 a.0 a.1.0 C Λ fm known ((LL.lawful (T.the_type (named_lft 1 0 tt κs)) (T'.the_laws (named_lft 1 0 tt κs)) 𝓛).typed a.0 _ are.0).0 are.1.0.1))
 
 get_meets : {M : Type 1} {𝓤 : Ura M} (𝓛 : Logic 𝓤) (mem : Memory → SProp 𝓤) (run : Routine → Fun 𝓤) (𝓣 : Tables 𝓤 𝓛.H)
-    → Triple 𝓤 (𝓣.C #get_vertex) (Callee 𝓛 mem run)
+    → Triple 𝓤 (𝓣.C #get-vertex) (Callee 𝓛 mem run)
     → Meets 𝓛 this.signature (WpFn 𝓤 𝓛.H 𝓣.C 𝓣.Λ code.function) (this.spec 𝓛 mem run)
-get_meets {𝓤 = 𝓤} 𝓛 mem run 𝓣 known = walk_Meets 𝓛 this.ended stayed (Goes_none 𝓛 1 B yes (λ κs x f. refl), (Goes_none 𝓛 1 (λ _. usize) yes (λ κs x f. refl), tt)) (this.clauses 𝓛 mem run) (WpFn 𝓤 𝓛.H 𝓣.C 𝓣.Λ code.function) (WpFn_mono 𝓤 𝓛.H 𝓛.laws 𝓣 code.function)
+get_meets {𝓤 = 𝓤} 𝓛 mem run 𝓣 known = walk_Meets 𝓛 this.ended stayed (Goes-none 𝓛 1 B yes (λ κs x f. refl), (Goes-none 𝓛 1 (λ _. usize) yes (λ κs x f. refl), tt)) (this.clauses 𝓛 mem run) (WpFn 𝓤 𝓛.H 𝓣.C 𝓣.Λ code.function) (WpFn-mono 𝓤 𝓛.H 𝓛.laws 𝓣 code.function)
     (get_walks 𝓛 mem run 𝓣.C 𝓣.Λ (fm_of 𝓤 𝓛.H 𝓛.laws 𝓣) known)
 
 pub get_spec : {M : Type 1} → stated.statement M
@@ -177,4 +177,4 @@ get_spec 𝓤 𝓛 𝓜 𝓡 =
     entered 𝓤 𝓛.H (triple_of 𝓛 this.signature (this.spec 𝓛 𝓜.mem 𝓡.run))
     (tables 𝓤 𝓛.H 𝓜 𝓡 code.env).C (tables 𝓤 𝓛.H 𝓜 𝓡 code.env).Λ #get code.function (code.unfolded 𝓤 𝓛.H 𝓜 𝓡)
     (get_meets 𝓛 𝓜.mem 𝓡.run (tables_of 𝓤 𝓛.H 𝓜 (tables 𝓤 𝓛.H 𝓜 𝓡 code.env))
-    (cited 𝓤 𝓛.H (Callee 𝓛 𝓜.mem 𝓡.run) 𝓜 𝓡 code.env #get_vertex got_def.routine code.calls_view::view_data::PlineViewData::get_vertex (got_thm.met 𝓤 𝓛 𝓜 𝓡)))
+    (cited 𝓤 𝓛.H (Callee 𝓛 𝓜.mem 𝓡.run) 𝓜 𝓡 code.env #get-vertex got-def.routine code.calls-view::view-data::PlineViewData::get-vertex (got-thm.met 𝓤 𝓛 𝓜 𝓡)))

@@ -18,7 +18,7 @@ use contract.Running.{tables, tables_of}
 use types.Kit.{‵, raw, ◌⊛◌, ◌$◌, ◌∵◌, !, qed, by, move, use1, split, fsplit, fjoin, suffices, frame}
 use types.Part.{agg}
 use types.Run.{look, init, forget, stop, from, load, and_then, no_more, assigns, returns, enter, alloc1, alloc0, params1, pass1, pass0, free1, free0}
-use sound.WpLaws.{WpFn_mono}
+use sound.WpLaws.{WpFn-mono}
 use denote.RattleType.{owns}
 use denote.Laws.{Is}
 use denote.Builtin.{f64}
@@ -31,7 +31,7 @@ use denote.Struct.Rest.{own_shut}
 use denote.Triple.Entry.{on_entry}
 use denote.Triple.Spec.{Meets, triple_of}
 use denote.Triple.Table.{entered}
-use denote.Triple.Walked.{says, Stays, stay_none_slice, stay_none, Goes_none, walk_of, Goes_none_slice, Walks, ends_at, walked, walk_Meets}
+use denote.Triple.Walked.{says, Stays, stay_none_slice, stay_none, Goes-none, walk_of, Goes-none_slice, Walks, ends_at, walked, walk_Meets}
 use denote.Exit.{yes}
 use Rattle.pline_view.specs.declared.pline_view.PlineView.{PlineView}
 use Rattle.view.specs.declared.view_data.PlineViewData.{PlineViewData}
@@ -105,7 +105,7 @@ module _ {M : Type 1} {𝓤 : Ura M} (𝓛 : Logic 𝓤) (mem : Memory → SProp
 
 new_meets : {M : Type 1} {𝓤 : Ura M} (𝓛 : Logic 𝓤) → (mem : Memory → SProp 𝓤) (run : Routine → Fun 𝓤) (𝓣 : Tables 𝓤 𝓛.H)
     → Meets 𝓛 new.signature (WpFn 𝓤 𝓛.H 𝓣.C 𝓣.Λ code.function) (new.spec 𝓛 mem run)
-new_meets {𝓤 = 𝓤} 𝓛 mem run 𝓣 = walk_Meets 𝓛 new.ended stayed (Goes_none_slice 𝓛 1 (0 ∷ []) tt (plain (λ _. f64)) yes, (Goes_none 𝓛 1 (λ _. D₀.the_row) yes (λ κs x f. refl), tt)) (new.clauses 𝓛 mem run) (WpFn 𝓤 𝓛.H 𝓣.C 𝓣.Λ code.function) (WpFn_mono 𝓤 𝓛.H 𝓛.laws 𝓣 code.function) (new_walks 𝓛 mem run 𝓣.C 𝓣.Λ)
+new_meets {𝓤 = 𝓤} 𝓛 mem run 𝓣 = walk_Meets 𝓛 new.ended stayed (Goes-none_slice 𝓛 1 (0 ∷ []) tt (plain (λ _. f64)) yes, (Goes-none 𝓛 1 (λ _. D₀.the_row) yes (λ κs x f. refl), tt)) (new.clauses 𝓛 mem run) (WpFn 𝓤 𝓛.H 𝓣.C 𝓣.Λ code.function) (WpFn-mono 𝓤 𝓛.H 𝓛.laws 𝓣 code.function) (new_walks 𝓛 mem run 𝓣.C 𝓣.Λ)
 
 pub new_spec : {M : Type 1} → stated.statement M
 unfolding code.routine tables_of

@@ -19,7 +19,7 @@ use contract.Running.{tables, tables_of}
 use types.Kit.{‵, raw, ◌⊛◌, given, ⋆, some, later, ◌$◌, ◌∵◌, !, qed, by, move, drop, use1, use2, split, join, learn, pick, fsplit, fjoin, suffices, frame, await, done}
 use types.Part.{whole, sub, look_in}
 use types.Run.{look, init, forget, stop, fld, from, load, of_opd, and_then, no_more, assigns, land, returns, enter, alloc1, alloc0, params1, pass1, pass0, free1, free0}
-use sound.WpLaws.{FmC, fm_of, WpFn_mono}
+use sound.WpLaws.{FmC, fm_of, WpFn-mono}
 use denote.RattleType.{RattleType, owns}
 use denote.Laws.{Is, shows}
 use denote.Builtin.{f64}
@@ -36,7 +36,7 @@ use denote.Triple.Call.{calls_at}
 use denote.Triple.Entry.{Vals, on_entry}
 use denote.Triple.Spec.{Meets, triple_of}
 use denote.Triple.Table.{entered, cited}
-use denote.Triple.Walked.{says, Stays, stay_none, walk_of, Goes_none, Walks, ends_at, walked, walk_Meets}
+use denote.Triple.Walked.{says, Stays, stay_none, walk_of, Goes-none, Walks, ends_at, walked, walk_Meets}
 use denote.Exit.{yes}
 use denote.Triple.Clauses.{ensured, lasts}
 use Prim.Native.Nat.{ℕ}
@@ -52,9 +52,9 @@ use Rattle.view.proofs.view_data.PlineViewData.TheLaws as D₀'
 use Rattle.view.specs.contracts.view_data.CountAnswer as S
 use Rattle.view.proofs.view_data.CountAnswer.TheLaws as S'
 use Rattle.view.specs.contracts.view_data.PlineViewData.vertex_count as got
-use Rattle.view.proofs.view_data.PlineViewData.vertex_count.Symbol as got_def
-use Rattle.view.proofs.view_data.PlineViewData.vertex_count.Symbol.{name as #vertex_count}
-use Rattle.view.proofs.view_data.PlineViewData.vertex_count.Met as got_thm
+use Rattle.view.proofs.view_data.PlineViewData.vertex_count.Symbol as got-def
+use Rattle.view.proofs.view_data.PlineViewData.vertex_count.Symbol.{name as #vertex-count}
+use Rattle.view.proofs.view_data.PlineViewData.vertex_count.Met as got-thm
 use Rattle.pline_view.specs.contracts.pline_view.PlineView.vertex_count.Key.{name as #this}
 use Rattle.pline_view.specs.contracts.pline_view.PlineView.vertex_count as this
 use Rattle.pline_view.proofs.pline_view.PlineView.vertex_count.Statement as stated
@@ -137,7 +137,7 @@ module _ {M : Type 1} {𝓤 : Ura M} (𝓛 : Logic 𝓤) (mem : Memory → SProp
       suffices ! _ (ends_at 𝓛 this.ended stayed (this.clauses 𝓛 mem run) (((κ, tt), (q, tt), tt, (d, tt), at), tt) u r (tt, tt) (tt, tt)) $ says ! e $
       move ! (1 ∷ []) $ frame ! $ nothing ! $ move ! (2 ∷ 0 ∷ []) $ fjoin ! $ frame ! $ done !
 
-  module _ (C : Calls 𝓤 H) (Λ : Loops 𝓤 H) (fm : FmC 𝓤 H 𝓛.laws C) (known : Triple 𝓤 (C #vertex_count) (Callee 𝓛 mem run)) where
+  module _ (C : Calls 𝓤 H) (Λ : Loops 𝓤 H) (fm : FmC 𝓤 H 𝓛.laws C) (known : Triple 𝓤 (C #vertex-count) (Callee 𝓛 mem run)) where
     walk : Holds (has_ty (T'.mir (named 0)) mach) × WT mach → ent 𝓤 (on_entry 𝓛 this.signature (κ, tt) (q, tt) (d, tt) at) (WpFn 𝓤 H C Λ code.function (mach ∷ []) Post)
     walk wt =
         qed 𝓛 (raw (on_entry 𝓛 this.signature (κ, tt) (q, tt) (d, tt) at) ∷ []) ∵ enter ! C Λ code.function (mach ∷ []) _ $
@@ -157,15 +157,15 @@ module _ {M : Type 1} {𝓤 : Ura M} (𝓛 : Logic 𝓤) (mem : Memory → SProp
 module _ {M : Type 1} {𝓤 : Ura M} (𝓛 : Logic 𝓤) (mem : Memory → SProp 𝓤) (run : Routine → Fun 𝓤) where
   open 𝓛 use {H}
 
-  vertex_count_walks : (C : Calls 𝓤 H) (Λ : Loops 𝓤 H) → FmC 𝓤 H 𝓛.laws C → Triple 𝓤 (C #vertex_count) (Callee 𝓛 mem run)
+  vertex_count_walks : (C : Calls 𝓤 H) (Λ : Loops 𝓤 H) → FmC 𝓤 H 𝓛.laws C → Triple 𝓤 (C #vertex-count) (Callee 𝓛 mem run)
       → Walks 𝓛 this.ended stayed (WpFn 𝓤 H C Λ code.function) (this.clauses 𝓛 mem run)
   vertex_count_walks C Λ fm known = walked 𝓛 this.ended stayed (this.clauses 𝓛 mem run) (WpFn 𝓤 H C Λ code.function) (λ κs. (LL.vals (T.the_type (named_lft 1 0 tt κs)) (T'.the_laws (named_lft 1 0 tt κs)), tt)) (λ κs. (LL.tells (T.the_type (named_lft 1 0 tt κs)) (T'.the_laws (named_lft 1 0 tt κs)), tt))
       (λ κs qs bounds a g are. via 𝓤 _ (fst∗ 𝓤 _ (emp 𝓤)) (walk 𝓛 mem run κs.0 qs.0 a.0 C Λ fm known ((LL.lawful (T.the_type (named_lft 1 0 tt κs)) (T'.the_laws (named_lft 1 0 tt κs)) 𝓛).typed a.0 _ are.0).0))
 
 vertex_count_meets : {M : Type 1} {𝓤 : Ura M} (𝓛 : Logic 𝓤) (mem : Memory → SProp 𝓤) (run : Routine → Fun 𝓤) (𝓣 : Tables 𝓤 𝓛.H)
-    → Triple 𝓤 (𝓣.C #vertex_count) (Callee 𝓛 mem run)
+    → Triple 𝓤 (𝓣.C #vertex-count) (Callee 𝓛 mem run)
     → Meets 𝓛 this.signature (WpFn 𝓤 𝓛.H 𝓣.C 𝓣.Λ code.function) (this.spec 𝓛 mem run)
-vertex_count_meets {𝓤 = 𝓤} 𝓛 mem run 𝓣 known = walk_Meets 𝓛 this.ended stayed (Goes_none 𝓛 1 B yes (λ κs x f. refl), tt) (this.clauses 𝓛 mem run) (WpFn 𝓤 𝓛.H 𝓣.C 𝓣.Λ code.function) (WpFn_mono 𝓤 𝓛.H 𝓛.laws 𝓣 code.function)
+vertex_count_meets {𝓤 = 𝓤} 𝓛 mem run 𝓣 known = walk_Meets 𝓛 this.ended stayed (Goes-none 𝓛 1 B yes (λ κs x f. refl), tt) (this.clauses 𝓛 mem run) (WpFn 𝓤 𝓛.H 𝓣.C 𝓣.Λ code.function) (WpFn-mono 𝓤 𝓛.H 𝓛.laws 𝓣 code.function)
     (vertex_count_walks 𝓛 mem run 𝓣.C 𝓣.Λ (fm_of 𝓤 𝓛.H 𝓛.laws 𝓣) known)
 
 pub vertex_count_spec : {M : Type 1} → stated.statement M
@@ -174,4 +174,4 @@ vertex_count_spec 𝓤 𝓛 𝓜 𝓡 =
     entered 𝓤 𝓛.H (triple_of 𝓛 this.signature (this.spec 𝓛 𝓜.mem 𝓡.run))
     (tables 𝓤 𝓛.H 𝓜 𝓡 code.env).C (tables 𝓤 𝓛.H 𝓜 𝓡 code.env).Λ #this code.function (code.unfolded 𝓤 𝓛.H 𝓜 𝓡)
     (vertex_count_meets 𝓛 𝓜.mem 𝓡.run (tables_of 𝓤 𝓛.H 𝓜 (tables 𝓤 𝓛.H 𝓜 𝓡 code.env))
-    (cited 𝓤 𝓛.H (Callee 𝓛 𝓜.mem 𝓡.run) 𝓜 𝓡 code.env #vertex_count got_def.routine code.calls_view::view_data::PlineViewData::vertex_count (got_thm.met 𝓤 𝓛 𝓜 𝓡)))
+    (cited 𝓤 𝓛.H (Callee 𝓛 𝓜.mem 𝓡.run) 𝓜 𝓡 code.env #vertex-count got-def.routine code.calls-view::view-data::PlineViewData::vertex-count (got-thm.met 𝓤 𝓛 𝓜 𝓡)))

@@ -2,7 +2,7 @@
 use mathlib.Core.Path.{◌≡◌, refl}
 use mathlib.Core.Bool.{◌&&◌}
 use Prim.Native.Nat.{◌≤◌}
-use borrow.Author.Tests.{lt_ltb, le_ltb}
+use borrow.Author.Tests.{lt-ltb, le-ltb}
 use Rattle.real.specs.Refusal.{bad_number, bad_tolerance, bad_outline, not_closed}
 use Rattle.real.specs.Reply.{Reply, check}
 use Rattle.real.proofs.Pick.{picks, good, bad, passed}
@@ -16,7 +16,7 @@ use Rattle.view.proofs.view_data.PlineViewData.from_new_start.Statement.{stateme
 use Rattle.view.proofs.view_data.PlineViewData.from_new_start.Tie as tie
 
 few : (c : tie.Else1) → count_of c.before.before.before.args.source.now ≤ most_vertices
-few c = (viewable_in _ (passed c.before.serves_views.ensures c.if1.false)).1
+few c = (viewable_in _ (passed c.before.serves-views.ensures c.if1.false)).1
 
 -- past the third guard, and past the fourth, an answer is the definition's if it is what the definition has there
 past3 : (c : tie.Else3) {r x : Reply PlineViewData} → r ≡ x → let a = c.before.before.before.before.before.before.before.args in let s = a.source.now in
@@ -24,33 +24,33 @@ past3 : (c : tie.Else3) {r x : Reply PlineViewData} → r ≡ x → let a = c.be
 past3 c e =
     let at2 = c.before.before in
     let at1 = at2.before.before in
-    good _ at1.before.serves_views.ensures at1.if1.false
-    (good _ at2.before.outline_and_point_in_range.ensures at2.if2.false
-    (good _ c.before.tol_and_limit_in_range.ensures c.if3.false e))
+    good _ at1.before.serves-views.ensures at1.if1.false
+    (good _ at2.before.outline-and-point-in-range.ensures at2.if2.false
+    (good _ c.before.tol-and-limit-in-range.ensures c.if3.false e))
 
 past4 : (c : tie.Else4) {r x : Reply PlineViewData} → r ≡ x → let a = c.before.before.before.before.before.before.before.before.args in let s = a.source.now in
     r ≡ check (viewable s) bad_outline (check (numbers_ok double s && point_ok double a.p) bad_number (check (tol_ok double a.eps && limit_ok double a.limit) bad_tolerance (check a.closed not_closed x)))
 past4 c e = past3 c.before (good {t = c.before.before.before.before.before.before.before.before.args.closed} _ refl c.if4.false e)
 
-returns_4 : tie.Need_returns_4
+returns_4 : tie.Need-returns-4
 unfolding new_start_of
 returns_4 c = past3 c.before (bad {t = c.before.before.before.before.before.before.before.before.args.closed} _ refl c.if4.true refl)
 
-returns_5 : tie.Need_returns_5
+returns_5 : tie.Need-returns-5
 unfolding new_start_of
-returns_5 c = past4 c.before (simp (le_ltb _ _ c.if5.true))
+returns_5 c = past4 c.before (simp (le-ltb _ _ c.if5.true))
 
-index : tie.Need_move_on_requires
+index : tie.Need-move-on-requires
 index c κs = record { few = few c.before.before.before.before.before.before; index = c.if5.false }
 
-round : tie.Need_round_from_requires
-round c κs = record { few = few c.before.before.before.before.before.before.before; index = c.move_on.ensures.below }
+round : tie.Need-round-from-requires
+round c κs = record { few = few c.before.before.before.before.before.before.before; index = c.move-on.ensures.below }
 
-returns_6 : tie.Need_returns_6
+returns_6 : tie.Need-returns-6
 unfolding new_start_of
 returns_6 c =
     let at5 = c.before.before in
-    past4 at5.before (simp (lt_ltb _ _ at5.if5.false) (simp (c.before.move_on.ensures.is, c.round_from.ensures)))
+    past4 at5.before (simp (lt-ltb _ _ at5.if5.false) (simp (c.before.move-on.ensures.is, c.round_from.ensures)))
 
 pub from_new_start_spec : {M : Type 1} → statement M
 unfolding new_start_of

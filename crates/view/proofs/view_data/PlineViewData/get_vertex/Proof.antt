@@ -7,7 +7,7 @@ use native.Mathlib.Omega.{arith}
 use lib.Dec.{ltb}
 use lib.Ieee.{Float}
 use borrow.Author.Rules.{rules}
-use borrow.Author.Tests.{lt_ltb, le_ltb}
+use borrow.Author.Tests.{lt-ltb, le-ltb}
 use Rattle.real.specs.Refusal.{bad_number, bad_index}
 use Rattle.real.specs.Reply.{Reply, given, check}
 use Rattle.real.proofs.Pick.{bad, good, passed}
@@ -35,46 +35,46 @@ index c = c.before.before.before.args.index
 abbrev last : tie.Else1 → Reply PlineVertex
 last c = check (record_ok double (self c) && reads_ok double (source c) (self c) (index c)) bad_number (given (record_vertex_of double (source c) (self c) (index c)))
 
-placed : (c : tie.After_enum_told) → let at1 = c.before.before.before in Placed (source at1) (self at1)
+placed : (c : tie.After-enum-told) → let at1 = c.before.before.before in Placed (source at1) (self at1)
 placed c =
     let at1 = c.before.before.before in
-    place_placed _ _ _ (passed at1.before.serves_views.ensures at1.if1.false) (told_passed c.enum_told.given.1 c.before.before.check_place.ensures)
+    place_placed _ _ _ (passed at1.before.serves-views.ensures at1.if1.false) (told_passed c.enum_told.given.1 c.before.before.check-place.ensures)
 
 -- past the place's check the answer is the last two links, and past the position's the last
-past : (c : tie.After_enum_told) → let at1 = c.before.before.before in
+past : (c : tie.After-enum-told) → let at1 = c.before.before.before in
     check (ltb (index at1) (vertices (self at1))) bad_index (last at1) ≡ get_vertex_of double (source at1) (self at1) (index at1)
 unfolding get_vertex_of
 past c =
     let at1 = c.before.before.before in
-    good _ at1.before.serves_views.ensures at1.if1.false (sym (place_rest _ _ _ (placed c)))
+    good _ at1.before.serves-views.ensures at1.if1.false (sym (place_rest _ _ _ (placed c)))
 
 past2 : (c : tie.Else2) → let at1 = c.before.before.before.before in last at1 ≡ get_vertex_of double (source at1) (self at1) (index at1)
-past2 c = simp (lt_ltb _ _ c.if2.false) at (past c.before)
+past2 c = simp (lt-ltb _ _ c.if2.false) at (past c.before)
 
 at : (c : tie.Else2) → let at1 = c.before.before.before.before in PlacedAt (source at1) (self at1) (index at1)
 at c = record { placed = placed c.before; position = c.if2.false }
 
-returns : tie.Need_returns
+returns : tie.Need-returns
 unfolding get_vertex_of
-returns c = bad _ c.before.serves_views.ensures c.if1.true refl
+returns c = bad _ c.before.serves-views.ensures c.if1.true refl
 
-returns_2 : tie.Need_returns_2
+returns_2 : tie.Need-returns-2
 unfolding get_vertex_of
 returns_2 c =
-    let at_check = c.before.before.before in
-    let at1 = at_check.before in
-    good _ at1.before.serves_views.ensures at1.if1.false (place_refused _ _ _ _ (told_refused c.before.place.given.1 at_check.check_place.ensures))
+    let at-check = c.before.before.before in
+    let at1 = at-check.before in
+    good _ at1.before.serves-views.ensures at1.if1.false (place_refused _ _ _ _ (told_refused c.before.place.given.1 at-check.check-place.ensures))
 
-returns_3 : tie.Need_returns_3
-returns_3 c = simp (le_ltb _ _ c.if2.true) at (past c.before)
+returns_3 : tie.Need-returns-3
+returns_3 c = simp (le-ltb _ _ c.if2.true) at (past c.before)
 
-returns_4 : tie.Need_returns_4
-returns_4 c = bad _ c.before.lookup_in_range.ensures c.if3.true refl ∙ past2 c.before.before
+returns_4 : tie.Need-returns-4
+returns_4 c = bad _ c.before.lookup-in-range.ensures c.if3.true refl ∙ past2 c.before.before
 
-returns_5 : tie.Need_returns_5
+returns_5 : tie.Need-returns-5
 returns_5 c =
     let at3 = c.before in
-    good _ at3.before.lookup_in_range.ensures at3.if3.false (rw c.vertex_of.ensures) ∙ past2 at3.before.before
+    good _ at3.before.lookup-in-range.ensures at3.if3.false (rw c.vertex-of.ensures) ∙ past2 at3.before.before
 
 pub get_vertex_spec : {M : Type 1} → statement M
 get_vertex_spec =

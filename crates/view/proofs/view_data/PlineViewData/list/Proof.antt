@@ -6,7 +6,7 @@ use native.Mathlib.Omega.{arith}
 use lib.ListN.{length}
 use lib.Ieee.{Float}
 use borrow.Author.Rules.{rules}
-use borrow.Author.Tests.{le_leb, lt_leb}
+use borrow.Author.Tests.{le-leb, lt-leb}
 use Rattle.real.specs.Refusal.{lacks_room}
 use Rattle.real.specs.Reply.{Reply, refused, given}
 use Rattle.plane.specs.Grade.{double}
@@ -18,47 +18,47 @@ use Rattle.view.proofs.view_data.PlineViewData.list.Statement.{statement}
 use Rattle.view.proofs.view_data.PlineViewData.list.Tie as tie
 
 -- what the call was asked
-abbrev source : tie.After_check_view → List Float
+abbrev source : tie.After-check-view → List Float
 source c = c.before.before.before.args.source.now
 
-abbrev self : tie.After_check_view → PlineViewData
+abbrev self : tie.After-check-view → PlineViewData
 self c = c.before.before.before.args.self
 
-abbrev out : tie.After_check_view → List Float
+abbrev out : tie.After-check-view → List Float
 out c = c.before.before.before.args.out.now
 
 -- an answer, and the buffer after it
-abbrev answered : tie.After_check_view → Reply ℕ → Type 0
+abbrev answered : tie.After-check-view → Reply ℕ → Type 0
 answered c r = r ≡ list_of double (source c) (self c) (length (out c))
 
-abbrev after : tie.After_check_view → Reply ℕ → List Float
+abbrev after : tie.After-check-view → Reply ℕ → List Float
 after c r = buffer_after r (out c) (written double (source c) (self c) (out c))
 
-clear : (c : tie.After_enum_told) → let at_check = c.before.before in Checked double (source at_check) (self at_check)
-clear c = checked double _ _ _ (told_passed c.enum_told.given.1 c.before.before.check_view.ensures)
+clear : (c : tie.After-enum-told) → let at-check = c.before.before in Checked double (source at-check) (self at-check)
+clear c = checked double _ _ _ (told_passed c.enum_told.given.1 c.before.before.check-view.ensures)
 
-returns : tie.Need_returns
+returns : tie.Need-returns
 unfolding list_of list_buffer buffer_after
 returns c =
-    let at_check = c.before.before.before in
-    let e = checked_refused double (source at_check) (self at_check) _ _ (told_refused c.before.checked.given.1 at_check.check_view.ensures) in
-    (e, ap (after at_check) e)
+    let at-check = c.before.before.before in
+    let e = checked_refused double (source at-check) (self at-check) _ _ (told_refused c.before.checked.given.1 at-check.check-view.ensures) in
+    (e, ap (after at-check) e)
 
-returns_2 : tie.Need_returns_2
+returns_2 : tie.Need-returns-2
 unfolding list_of list_buffer buffer_after
 returns_2 c =
-    let at_check = c.before.before.before in
-    let e : answered at_check (refused lacks_room) = sym (checked_rest double _ _ _ (clear c.before) ∙ simp (lt_leb _ _ c.if1.true)) in
-    (e, ap (after at_check) e)
+    let at-check = c.before.before.before in
+    let e : answered at-check (refused lacks_room) = sym (checked_rest double _ _ _ (clear c.before) ∙ simp (lt-leb _ _ c.if1.true)) in
+    (e, ap (after at-check) e)
 
-returns_3 : tie.Need_returns_3
+returns_3 : tie.Need-returns-3
 unfolding list_of list_buffer buffer_after
 returns_3 c =
-    let at_write = c.before.before in
-    let at_else = at_write.before.before in
-    let at_check = at_else.before.before.before in
-    let e : answered at_check (given (vertices (self at_check))) = sym (checked_rest double _ _ _ (clear at_else.before) ∙ simp (le_leb _ _ at_else.if1.false)) in
-    (e, at_write.write_list.ensures ∙ ap (after at_check) e)
+    let at-write = c.before.before in
+    let at-else = at-write.before.before in
+    let at-check = at-else.before.before.before in
+    let e : answered at-check (given (vertices (self at-check))) = sym (checked_rest double _ _ _ (clear at-else.before) ∙ simp (le-leb _ _ at-else.if1.false)) in
+    (e, at-write.write-list.ensures ∙ ap (after at-check) e)
 
 pub list_spec : {M : Type 1} → statement M
 list_spec =

@@ -5,10 +5,10 @@ use Rattle.view.proofs.Checks.{few_of_whole}
 use Rattle.view.proofs.view_data.PlineViewData.validate_for_source.Statement.{statement}
 use Rattle.view.proofs.view_data.PlineViewData.validate_for_source.Tie as tie
 
-few : tie.Need_judge_counts_requires
+few : tie.Need-judge-counts-requires
 few c κs =
     let whole = c.before.before.before.before in
-    few_of_whole whole.before.before.before.args.source.now (passed whole.before.outline_is_whole.ensures whole.if1.false)
+    few_of_whole whole.before.before.before.args.source.now (passed whole.before.outline-is-whole.ensures whole.if1.false)
 
 pub validate_for_source_spec : {M : Type 1} → statement M
 unfolding validate_by

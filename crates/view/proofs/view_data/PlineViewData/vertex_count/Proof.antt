@@ -8,14 +8,14 @@ use Rattle.view.proofs.Checks.{Checked, told_refused, told_passed, checked, chec
 use Rattle.view.proofs.view_data.PlineViewData.vertex_count.Statement.{statement}
 use Rattle.view.proofs.view_data.PlineViewData.vertex_count.Tie as tie
 
-clear : (c : tie.After_enum_told) → let a = c.before.before.before.before.args in Checked double a.source.now a.self
-clear c = checked double _ _ _ (told_passed c.enum_told.given.1 c.before.before.check_view.ensures)
+clear : (c : tie.After-enum-told) → let a = c.before.before.before.before.args in Checked double a.source.now a.self
+clear c = checked double _ _ _ (told_passed c.enum_told.given.1 c.before.before.check-view.ensures)
 
-returns : tie.Need_returns
+returns : tie.Need-returns
 unfolding vertex_count_of
-returns c = checked_refused double _ _ _ _ (told_refused c.before.checked.given.1 c.before.before.before.check_view.ensures)
+returns c = checked_refused double _ _ _ _ (told_refused c.before.checked.given.1 c.before.before.before.check-view.ensures)
 
-returns_2 : tie.Need_returns_2
+returns_2 : tie.Need-returns-2
 unfolding vertex_count_of
 returns_2 c = sym (checked_rest double _ _ _ (clear c))
 
