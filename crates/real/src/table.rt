@@ -30,8 +30,8 @@ fn wide(x: u16) -> u64
 // The roots of (32 + i) * 2^23 and of the next such number.
 pub fn tabled(i: usize) -> Pair
     requires { i < 96 }
-    ensures fact_1 { result.a ≡ isqrt ((32 + i) * 2 ^ 23) }
-    ensures fact_2 { result.b ≡ isqrt ((32 + (i + 1)) * 2 ^ 23) }
+    ensures here { result.a ≡ isqrt ((32 + i) * 2 ^ 23) }
+    ensures next { result.b ≡ isqrt ((32 + (i + 1)) * 2 ^ 23) }
 {
     let t = ROOTS;
     Pair {

@@ -1,0 +1,30 @@
+-- `extend` has the root s and the rest r of m * 2 ^ 52, and the nearest whole number is s + 1 where r is above s.
+use mathlib.Core.Path.{◌≡◌}
+use Prim.Native.Nat.{ℕ, ◌+◌, ◌*◌, ◌^◌}
+use native.Mathlib.Omega.{arith}
+use lib.Dec.{lit≤, lit<}
+use Rattle.real.specs.Whole.{Root}
+use Rattle.real.proofs.Squares.{root_ge, root_lt, renamed, near_up, near_down}
+use borrow.Author.Rules.{rules}
+use Rattle.real.proofs.whole.near.Goals as goal
+use Rattle.real.proofs.whole.near.Goals.{After-extend-b}
+
+all : (c : After-extend-b) → Root (c.args.m * 2 ^ 52) c.extend-b.result.s c.extend-b.result.r
+all c = renamed (zeros c.args.m _ c.whole-a.ensures.sum) c.extend-b.ensures
+  where
+    zeros : (m x : ℕ) → x ≡ m → x * (2 ^ 26 * 2 ^ 26) + 0 * 2 ^ 26 + 0 ≡ m * 2 ^ 52
+    zeros m x h = omega arith
+
+pub extend-b-requires : goal.extend-b-requires
+extend-b-requires c =
+    let h = c.whole-a.ensures in
+    let s-ge = root_ge _ _ _ (2 ^ 26) h (omega (arith, c.requires)) in
+    let s-lt = root_lt _ _ _ (2 ^ 27) h (omega (arith, c.requires)) in
+    record { root = s-lt; base = lit≤ tt; step = record { rest = h.rest; wide = omega arith; high = lit< tt; low = lit< tt } }
+
+pub returns-else-b-s : goal.returns-else-b-s
+returns-else-b-s c =
+    near_down _ _ _ (omega (arith, c.requires)) (all c.before.before) c.if-b-s.false
+
+pub returns-then-b-s : goal.returns-then-b-s
+returns-then-b-s c = near_up _ _ _ (all c.before.before) c.if-b-s.true
