@@ -1,4 +1,6 @@
 // Document 01's cases that are run, and a traced arc at two line limits: each is a line of the stored output.
+#![tactic(auto)]
+
 use io::print_decimal;
 use libc::STDOUT_FILENO;
 use plane::{LINE_LIMIT, PlineVertex, Vector2, VertexAnswer, fuzzy_eq_eps};

@@ -5,7 +5,7 @@ ghost use Rattle.console.specs.Within.{Within};
 use libc::STDIN_FILENO;
 
 // How many bytes were read, from the buffer's start.
-#[derive(Drop)]
+#[derive(Clone, Copy)]
 pub enum Input {
     Read(usize),
     Failed,

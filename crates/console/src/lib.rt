@@ -1,4 +1,6 @@
 // What the programs share: reading standard input, in which an error is no end of the input, and words on standard error.
+#![tactic(auto)]
+
 mod input;
 mod words;
 

@@ -12,7 +12,7 @@ use real::BAD_TEXT;
 // Where no 90 has been read.
 const NO_COUNT: u64 = 10_000_000_000_000_000_000;
 
-#[derive(Drop)]
+#[derive(Clone, Copy)]
 pub enum TurnAnswer {
     // The entity is closed.
     Done,
@@ -114,7 +114,7 @@ fn is_name(text: &[u8]) -> bool
     same(text, b"LWPOLYLINE")
 }
 
-#[derive(Drop)]
+#[derive(Clone, Copy)]
 pub enum SeekAnswer {
     // The entity's items begin here.
     Found(usize),

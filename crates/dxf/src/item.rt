@@ -20,7 +20,7 @@ fn code(text: &[u8]) -> WholeAnswer
     whole(text)
 }
 
-#[derive(Drop)]
+#[derive(Clone, Copy)]
 pub enum ItemAnswer {
     // Nothing is left.
     End,

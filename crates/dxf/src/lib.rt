@@ -1,4 +1,6 @@
 // Outlines read from the text of a DXF file.
+#![tactic(auto)]
+
 mod entity;
 mod item;
 mod line;

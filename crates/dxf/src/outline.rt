@@ -12,13 +12,13 @@ use real::{BAD_NUMBER, BAD_OUTLINE, NO_ROOM};
 use view::vertices_in_range;
 
 // How many vertices the outline has, and whether it is closed.
-#[derive(Drop)]
+#[derive(Clone, Copy)]
 pub struct DxfOutline {
     pub vertices: usize,
     pub closed: bool,
 }
 
-#[derive(Drop)]
+#[derive(Clone, Copy)]
 pub enum DxfAnswer {
     Given(DxfOutline),
     Refused(u8),

@@ -14,7 +14,7 @@ pub const OUTLINE_NUMBERS: usize = 3 * MOST_VERTICES;
 
 // The last 90, or a number that is no entity's count; whether the last 70 is odd; whether a 10 waits for its 20, and its x;
 // how many vertices there are.
-#[derive(Drop)]
+#[derive(Clone, Copy)]
 pub struct State {
     pub count: u64,
     pub closed: bool,
@@ -23,7 +23,7 @@ pub struct State {
     pub vertices: usize,
 }
 
-#[derive(Drop)]
+#[derive(Clone, Copy)]
 pub enum StepAnswer {
     Given(State),
     Refused(u8),

@@ -1,5 +1,7 @@
 // Reads one drawing in DXF from standard input and writes the job sheet of its outline, without views, to standard output. For a
 // drawing that is refused, and where a read or a write fails, it writes no sheet and says so on standard error.
+#![tactic(auto)]
+
 mod input;
 mod output;
 

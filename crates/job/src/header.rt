@@ -6,7 +6,7 @@ use crate::size::{HEADER_BYTES, MOST_VIEWS, VERTEX_BYTES};
 use plane::MOST_VERTICES;
 use record::{RECORD_BYTES, le16, le32};
 
-#[derive(Drop)]
+#[derive(Clone, Copy)]
 pub struct Header {
     pub version: usize,
     pub flags: usize,

@@ -1,4 +1,6 @@
 // The job sheet: its bytes and its text.
+#![tactic(auto)]
+
 mod extent;
 mod header;
 mod line;

@@ -10,13 +10,13 @@ use crate::size::OUTLINE_NUMBERS;
 use real::{BAD_NUMBER, BAD_RECORD, BAD_SHEET};
 
 // How many numbers the outline has, and how many parts the text.
-#[derive(Drop)]
+#[derive(Clone, Copy)]
 pub struct Opened {
     pub numbers: usize,
     pub parts: usize,
 }
 
-#[derive(Drop)]
+#[derive(Clone, Copy)]
 pub enum OpenAnswer {
     Given(Opened),
     Refused(u8),

@@ -1,4 +1,6 @@
 // Answers in lent buffers: 0 where there was room, else a refusal's number, and then nothing is written.
+#![tactic(auto)]
+
 mod drawing;
 mod give;
 mod list;

@@ -5,7 +5,7 @@ ghost use Rattle.lent.specs.Segment as spec;
 use plane::PlineVertex;
 use real::BAD_OUTLINE;
 
-#[derive(Drop)]
+#[derive(Clone, Copy)]
 pub enum SegmentAnswer {
     Given(PlineVertex, PlineVertex),
     Refused(u8),

@@ -75,7 +75,7 @@ fn signed(x: f64, minus: bool) -> f64
     if minus { -x } else { x }
 }
 
-#[derive(Drop)]
+#[derive(Clone, Copy)]
 pub enum NumberAnswer {
     Given(f64),
     Refused(u8),

@@ -7,7 +7,7 @@ use real::BAD_TEXT;
 // A number from here on is kept as this one or the next, whichever has its parity.
 const CAP: u64 = 10_000_000_000_000_000_000;
 
-#[derive(Drop)]
+#[derive(Clone, Copy)]
 pub enum WholeAnswer {
     Given(u64),
     Refused(u8),

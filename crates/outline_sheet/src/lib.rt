@@ -1,4 +1,6 @@
 // The job sheet of an outline, without views.
+#![tactic(auto)]
+
 mod header;
 mod numbers;
 mod sheet;

@@ -6,7 +6,7 @@ ghost use Rattle.plane.specs.Math.{dist_sq_of, midpoint_of, min_max_of, sweep_of
 use crate::fuzzy::FUZZ;
 use crate::vector2::Vector2;
 
-#[derive(Drop)]
+#[derive(Clone, Copy)]
 pub struct MinMax {
     pub min: f64,
     pub max: f64,

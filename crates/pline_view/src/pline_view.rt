@@ -7,7 +7,7 @@ ghost use Rattle.view.specs.Answers.{count_reply, get_vertex_of, vertex_count_of
 use plane::VertexAnswer;
 use view::{CountAnswer, PlineViewData};
 
-#[derive(Drop)]
+#[derive(Clone, Copy)]
 pub struct PlineView<'a> {
     pub source: &'a [f64],
     pub data: PlineViewData,

@@ -15,7 +15,7 @@ const ROOTS: [u16; 97] = [
     32121, 32251, 32381, 32510, 32639, 32768,
 ];
 
-#[derive(Drop)]
+#[derive(Clone, Copy)]
 pub struct Pair {
     pub a: u64,
     pub b: u64,

@@ -1,4 +1,6 @@
 // A view's record as the 64 bytes of a sheet, and the little-endian numbers in bytes.
+#![tactic(auto)]
+
 mod bytes;
 mod record;
 

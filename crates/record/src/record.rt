@@ -58,7 +58,7 @@ pub fn record_of(bytes: &[u8]) -> PlineViewData
     }
 }
 
-#[derive(Drop)]
+#[derive(Clone, Copy)]
 pub enum RecordAnswer {
     Given(PlineViewData),
     Refused(u8),
@@ -131,7 +131,7 @@ fn put_record(out: &mut [u8], d: PlineViewData) -> usize
     put_end(out, e, d.inverted_direction, d.cut_number)
 }
 
-#[derive(Drop)]
+#[derive(Clone, Copy)]
 pub enum BytesAnswer {
     Given(usize),
     Refused(u8),

@@ -11,7 +11,7 @@ const MOST: usize = 8192;
 const UNFIT: u8 = 255;
 
 // Places of the answer buffers.
-#[derive(Drop)]
+#[derive(Clone, Copy)]
 pub struct Room {
     pub numbers: usize,
     pub words: usize,

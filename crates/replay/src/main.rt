@@ -3,6 +3,8 @@
 // compare/cases/src/case.rs describes the list and the lines. Both stdin and stdout here are made by
 // `cargo run --release --bin vectors -- ../crates/replay/stdin ../crates/replay/stdout` in compare/, from the published text and
 // never from this library.
+#![tactic(auto)]
+
 mod case;
 mod face;
 mod print;

@@ -4,7 +4,7 @@ ghost use Rattle.std.specs.Prelude.{◌<◌};
 use libc::STDIN_FILENO;
 use real::from_bits;
 
-#[derive(Drop)]
+#[derive(Clone, Copy)]
 pub enum Next {
     Read(u64),
     End,

@@ -1,13 +1,13 @@
 // Answers that several calls share.
 use plane::Vector2;
 
-#[derive(Drop)]
+#[derive(Clone, Copy)]
 pub enum PointAnswer {
     Given(Vector2),
     Refused(u8),
 }
 
-#[derive(Drop)]
+#[derive(Clone, Copy)]
 pub enum BoolAnswer {
     Given(bool),
     Refused(u8),

@@ -8,13 +8,13 @@ ghost use Rattle.seg.specs.Arc.{arc_reply, chord_of, inv_four_bulge_of, sweeps_o
 use plane::{FUZZ, PlineVertex, Vector2, limit_in_range, point_within_arc_sweep, seg_in_range};
 use real::{BAD_NUMBER, BAD_TOLERANCE, NO_ARC, magnitude};
 
-#[derive(Drop)]
+#[derive(Clone, Copy)]
 pub struct Circle {
     pub radius: f64,
     pub center: Vector2,
 }
 
-#[derive(Drop)]
+#[derive(Clone, Copy)]
 pub enum ArcAnswer {
     Given(Circle),
     Refused(u8),

@@ -8,7 +8,7 @@ use crate::arc::{Circle, arc_circle, chord, ends_meet};
 use plane::{FUZZ, PlineVertex, Vector2, limit_in_range, min_max, seg_in_range};
 use real::{BAD_NUMBER, BAD_TOLERANCE};
 
-#[derive(Drop)]
+#[derive(Clone, Copy)]
 pub struct Bounds {
     pub min_x: f64,
     pub min_y: f64,
@@ -16,14 +16,14 @@ pub struct Bounds {
     pub max_y: f64,
 }
 
-#[derive(Drop)]
+#[derive(Clone, Copy)]
 pub enum BoxAnswer {
     Given(Bounds),
     Refused(u8),
 }
 
 // The sides that an arc crosses between its ends.
-#[derive(Drop)]
+#[derive(Clone, Copy)]
 pub struct Crossings {
     pub right: bool,
     pub left: bool,

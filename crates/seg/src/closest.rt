@@ -15,7 +15,7 @@ use plane::{
 use real::{BAD_NUMBER, BAD_TOLERANCE, RootedNumber, counted_root, magnitude};
 
 // A point, and how many square roots were taken for it.
-#[derive(Drop)]
+#[derive(Clone, Copy)]
 pub struct RootedPoint {
     pub point: Vector2,
     pub roots: u8,

@@ -10,13 +10,13 @@ use crate::arc::{chord, ends_meet};
 use plane::{PlineVertex, Vector2, point_in_range, seg_in_range, tol_and_limit_in_range};
 use real::{BAD_NUMBER, BAD_TOLERANCE, magnitude, root};
 
-#[derive(Drop)]
+#[derive(Clone, Copy)]
 pub struct SplitResult {
     pub updated_start: PlineVertex,
     pub split_vertex: PlineVertex,
 }
 
-#[derive(Drop)]
+#[derive(Clone, Copy)]
 pub enum SplitAnswer {
     Given(SplitResult),
     Refused(u8),

@@ -1,5 +1,7 @@
 // Reads one job sheet from standard input and writes its text to standard output. Where a read or a write fails, it says so on
 // standard error.
+#![tactic(auto)]
+
 mod input;
 mod output;
 

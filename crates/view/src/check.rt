@@ -10,7 +10,7 @@ use crate::view_data::PlineViewData;
 use plane::{bulge_in_range, point_in_range, vertex_in_range};
 use real::{BAD_INDEX, BAD_NUMBER, BAD_OFFSET, BAD_OUTLINE, UNEVEN_BULGES, bits};
 
-#[derive(Drop)]
+#[derive(Clone, Copy)]
 pub enum Check {
     Passed,
     Refused(u8),

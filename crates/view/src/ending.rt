@@ -6,7 +6,7 @@ use crate::view_data::PlineViewData;
 use plane::{PlineVertex, Vector2};
 
 // An offset, and the bulge of the view's last segment.
-#[derive(Drop)]
+#[derive(Clone, Copy)]
 pub struct Ending {
     pub offset: usize,
     pub bulge: f64,

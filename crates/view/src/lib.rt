@@ -1,4 +1,6 @@
 // Views of an outline: the record, how `create` and `from_new_start` make one, lookup by position, listing, reversal and trim, validation and the mark.
+#![tactic(auto)]
+
 mod check;
 mod create;
 mod ending;

@@ -10,7 +10,7 @@ use plane::{PlineVertex, Vector2};
 use seg::{SplitResult, closest_point, split_at_point};
 
 // Whether a point is on a segment, and how many square roots it took to tell.
-#[derive(Drop)]
+#[derive(Clone, Copy)]
 pub struct RootedTest {
     pub on: bool,
     pub roots: u8,

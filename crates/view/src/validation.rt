@@ -6,7 +6,7 @@ use crate::gap::is_across_gap;
 use crate::view_data::PlineViewData;
 use plane::{PlineVertex, Vector2};
 
-#[derive(Drop)]
+#[derive(Clone, Copy)]
 pub enum ViewDataValidation {
     SourceHasNoSegments,
     OffsetOutOfRange {
@@ -31,25 +31,25 @@ pub enum ViewDataValidation {
 }
 
 // A verdict, and how many square roots it took.
-#[derive(Drop)]
+#[derive(Clone, Copy)]
 pub struct Judgement {
     pub verdict: ViewDataValidation,
     pub roots: u8,
 }
 
-#[derive(Drop)]
+#[derive(Clone, Copy)]
 pub enum ValidationAnswer {
     Given(Judgement),
     Refused(u8),
 }
 
-#[derive(Drop)]
+#[derive(Clone, Copy)]
 pub enum Mark {
     Cut,
     Hold,
 }
 
-#[derive(Drop)]
+#[derive(Clone, Copy)]
 pub enum MarkAnswer {
     Given(Mark),
     Refused(u8),

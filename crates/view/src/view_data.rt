@@ -12,7 +12,7 @@ use crate::part::trimmed;
 use plane::{PlineVertex, Vector2, VertexAnswer};
 use real::{BAD_INDEX, BAD_NUMBER, BAD_OUTLINE, BAD_TRIM, NO_ROOM};
 
-#[derive(Drop)]
+#[derive(Clone, Copy)]
 pub struct PlineViewData {
     // Number of the outline's segment that the view starts on.
     pub start_index: usize,
@@ -28,13 +28,13 @@ pub struct PlineViewData {
     pub cut_number: u32,
 }
 
-#[derive(Drop)]
+#[derive(Clone, Copy)]
 pub enum ViewAnswer {
     Given(PlineViewData),
     Refused(u8),
 }
 
-#[derive(Drop)]
+#[derive(Clone, Copy)]
 pub enum CountAnswer {
     Given(usize),
     Refused(u8),

@@ -1,0 +1,5 @@
+-- The test with a tolerance, at the default one.
+use Rattle.plane.proofs.pline_vertex.PlineVertex.fuzzy_eq.Goals as goal
+
+pub returns : goal.returns
+returns c = c.fuzzy_eq_eps.ensures
