@@ -96,13 +96,13 @@ behind at n m h = elim (dec_lt (m - at) n) [
 ]
 
 -- the same, from the answer b to whether there is room for n bytes
-pub roomy : {b : Bool} {m k : ℕ} → b ≡ leb m k → not b ≡ false → m ≤ k
+pub roomy : {b : Bool} {m k : ℕ} → b ≡ leb m k → b ≡ true → m ≤ k
 roomy {b} {m} {k} e h = leb-true m k (passed e h)
 
-pub refused : {b : Bool} {l t : List ℕ} {at n : ℕ} → b ≡ leb (at + n) (length l) → not b ≡ true → length t ≡ n → Put l at t l at
+pub refused : {b : Bool} {l t : List ℕ} {at n : ℕ} → b ≡ leb (at + n) (length l) → b ≡ false → length t ≡ n → Put l at t l at
 refused {b} {l} {t} {at} {n} e h q = let f = leb-false (at + n) (length l) (failed e h) in full (omega arith)
 
-pub allowed : {b : Bool} {l l' t : List ℕ} {at n e : ℕ} → b ≡ leb (at + n) (length l) → not b ≡ false → length t ≤ n → Wrote l at t l' e → Put l at t l' e
+pub allowed : {b : Bool} {l l' t : List ℕ} {at n e : ℕ} → b ≡ leb (at + n) (length l) → b ≡ true → length t ≤ n → Wrote l at t l' e → Put l at t l' e
 allowed {b} {l} {l'} {t} {at} {n} {e} p h q w = let f = roomy {k = length l} p h in fitted (omega arith) w
 
 -- the same text, by another name

@@ -1,0 +1,67 @@
+-- Each arm has its power, and what no arm has is 15.
+use mathlib.Core.Path.{◌≡◌, refl, sym, ap, ◌∙◌}
+use Prim.Native.Nat.{ℕ, zero, suc, ◌^◌, ◌≤◌}
+use native.Mathlib.Nat.{le_antisymm}
+use native.Mathlib.Omega.{arith}
+use lib.Arith.{lt_of_le-ne}
+use Rattle.numeral.proofs.decimal.power.Goals as goal
+
+power_at : {r k : ℕ} (n : ℕ) → k ≡ n → r ≡ 10 ^ n → r ≡ 10 ^ k
+power_at n e p = p ∙ ap (λ (x : ℕ). 10 ^ x) (sym e)
+
+-- k is none of the numbers below n
+abbrev None : ℕ → ℕ → Type 0
+None k zero = Unit
+None k (suc n) = None k n × (k ≡ n → ⊥)
+
+none_below : (k n : ℕ) → None k n → n ≤ k
+none_below k zero h = omega arith
+none_below k (suc n) h = lt_of_le-ne (none_below k n h.0) (λ e. h.1 (sym e))
+
+pub returns-in_default : goal.returns-in_default
+returns-in_default c = power_at 15 (le_antisymm c.requires (none_below _ 15 c.in_default.in_default-own)) refl
+
+pub returns-in-0 : goal.returns-in-0
+returns-in-0 c = search power_at
+
+pub returns-in-1 : goal.returns-in-1
+returns-in-1 c = search power_at
+
+pub returns-in-2 : goal.returns-in-2
+returns-in-2 c = search power_at
+
+pub returns-in-3 : goal.returns-in-3
+returns-in-3 c = search power_at
+
+pub returns-in-4 : goal.returns-in-4
+returns-in-4 c = search power_at
+
+pub returns-in-5 : goal.returns-in-5
+returns-in-5 c = search power_at
+
+pub returns-in-6 : goal.returns-in-6
+returns-in-6 c = search power_at
+
+pub returns-in-7 : goal.returns-in-7
+returns-in-7 c = search power_at
+
+pub returns-in-8 : goal.returns-in-8
+returns-in-8 c = search power_at
+
+pub returns-in-9 : goal.returns-in-9
+returns-in-9 c = search power_at
+
+pub returns-in-10 : goal.returns-in-10
+returns-in-10 c = search power_at
+
+pub returns-in-11 : goal.returns-in-11
+returns-in-11 c = search power_at
+
+pub returns-in-12 : goal.returns-in-12
+returns-in-12 c = search power_at
+
+pub returns-in-13 : goal.returns-in-13
+returns-in-13 c = search power_at
+
+pub returns-in-14 : goal.returns-in-14
+returns-in-14 c = search power_at
