@@ -1,6 +1,6 @@
 -- Validation's roots: read without them its verdict is the same; a test takes at most one, none of a line or near an end, and validation makes two tests at most.
 use mathlib.Core.Path.{◌≡◌, refl, sym, ap, subst, ◌∙◌}
-use mathlib.Core.Bool.{Bool, true, false, cond, not, ◌&&◌, ◌||◌, false≢true}
+use mathlib.Core.Bool.{Bool, true, false, cond, not, ◌&&◌, ◌||◌, false≢true, true≢false}
 use mathlib.Core.List.{List}
 use Prim.Native.Nat.{ℕ, ◌+◌, ◌≤◌}
 use native.Mathlib.Nat.{add-zero}
@@ -73,19 +73,28 @@ all_later false true c p q v x y m n = refl
 all_later false false true p q v x y m n = refl
 all_later false false false p q v x y m n = refl
 
+-- what a test of a flag's negation says of the flag
+pub denied : {t : Bool} → not t ≡ true → t ≡ false
+denied {t = true} h = sym h
+denied {t = false} h = refl
+
+pub granted : {t : Bool} → not t ≡ false → t ≡ true
+granted {t = true} h = refl
+granted {t = false} h = sym h
+
 -- what validation makes of the start's test t and the end's u
 abbrev judged : Tally Bool → Tally Bool → Verdict → (Bool → Verdict) → Tally Verdict
 judged t u off verdict =
     let rest = cond (not t.value) (tally off 0) (tally (verdict u.value) (u.roots + 0)) in
     tally rest.value (t.roots + rest.roots)
 
-judged_off : (b : Bool) (n : ℕ) (u : Tally Bool) (off : Verdict) (verdict : Bool → Verdict) → not b ≡ true → tally off n ≡ judged (tally b n) u off verdict
+judged_off : (b : Bool) (n : ℕ) (u : Tally Bool) (off : Verdict) (verdict : Bool → Verdict) → b ≡ false → tally off n ≡ judged (tally b n) u off verdict
 judged_off false n u off verdict h = ap (tally off) (sym (add-zero n))
-judged_off true n u off verdict h = absurd (false≢true h)
+judged_off true n u off verdict h = absurd (true≢false h)
 
-judged_on : (b : Bool) (n : ℕ) (u : Tally Bool) (off : Verdict) (verdict : Bool → Verdict) → not b ≡ false → tally (verdict u.value) (n + u.roots) ≡ judged (tally b n) u off verdict
+judged_on : (b : Bool) (n : ℕ) (u : Tally Bool) (off : Verdict) (verdict : Bool → Verdict) → b ≡ true → tally (verdict u.value) (n + u.roots) ≡ judged (tally b n) u off verdict
 judged_on true n u off verdict h = ap (λ m. tally (verdict u.value) (n + m)) (sym (add-zero u.roots))
-judged_on false n u off verdict h = absurd (false≢true (sym h))
+judged_on false n u off verdict h = absurd (false≢true h)
 
 judged_takes : (b : Bool) (n : ℕ) (u : Tally Bool) (p : Vector2) (verdict : Bool → Verdict) → ((on : Bool) → Later (verdict on)) → Takes n u.roots (judged (tally b n) u (start_off p) verdict)
 judged_takes false n u p verdict later = add-zero n
@@ -139,13 +148,13 @@ module _ (g : Grade) (limit : Float) where
     abbrev ending : Bool → Verdict
     ending on = end_verdict g d on (vertex_value s last)
 
-    pub placed_off : (t : Tally Bool) → t ≡ on_outline_by counting g limit s d.start_index first → not t.value ≡ true → tally (start_off first) t.roots ≡ placed_by counting g limit s d
+    pub placed_off : (t : Tally Bool) → t ≡ on_outline_by counting g limit s d.start_index first → t.value ≡ false → tally (start_off first) t.roots ≡ placed_by counting g limit s d
     unfolding placed_by
     placed_off t e h =
         let u : Tally Bool = on_outline_by counting g limit s last d.end_point in
         judged_off t.value t.roots u (start_off first) ending h ∙ ap (λ t. judged t u (start_off first) ending) e
 
-    pub placed_on : (t u : Tally Bool) → t ≡ on_outline_by counting g limit s d.start_index first → u ≡ on_outline_by counting g limit s last d.end_point → not t.value ≡ false
+    pub placed_on : (t u : Tally Bool) → t ≡ on_outline_by counting g limit s d.start_index first → u ≡ on_outline_by counting g limit s last d.end_point → t.value ≡ true
         → tally (ending u.value) (t.roots + u.roots) ≡ placed_by counting g limit s d
     unfolding placed_by
     placed_on t u e f h =

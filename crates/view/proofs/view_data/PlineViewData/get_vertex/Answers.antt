@@ -1,0 +1,74 @@
+-- Each return is the definition's link whose test the code made; past them the vertex is looked up.
+use mathlib.Core.Path.{◌≡◌, refl, sym, ◌∙◌}
+use mathlib.Core.Bool.{◌&&◌}
+use mathlib.Core.List.{List}
+use Prim.Native.Nat.{ℕ}
+use native.Mathlib.Omega.{arith}
+use lib.Dec.{ltb}
+use lib.Ieee.{Float}
+use borrow.Author.Rules.{rules}
+use borrow.Author.Tests.{lt-ltb, le-ltb}
+use Rattle.real.specs.Refusal.{bad_number, bad_index}
+use Rattle.real.specs.Reply.{Reply, given, check}
+use Rattle.real.proofs.Pick.{bad, good, passed}
+use Rattle.plane.specs.Grade.{double}
+use Rattle.plane.specs.declared.pline_vertex.PlineVertex.{PlineVertex}
+use Rattle.view.specs.Record.{vertices, record_vertex_of, record_ok, reads_ok}
+use Rattle.view.specs.Needs.{Placed, PlacedAt}
+use Rattle.view.specs.Answers.{get_vertex_of}
+use Rattle.view.specs.declared.view_data.PlineViewData.{PlineViewData}
+use Rattle.view.proofs.Checks.{told_refused, told_passed, place_placed, place_rest, place_refused}
+use Rattle.view.proofs.view_data.PlineViewData.get_vertex.Goals as goal
+use Rattle.view.proofs.view_data.PlineViewData.get_vertex.Goals.{Else-index-offset, In_default}
+
+-- the definition's last link
+abbrev last : List Float → PlineViewData → ℕ → Reply PlineVertex
+last s d k = check (record_ok double d && reads_ok double s d k) bad_number (given (record_vertex_of double s d k))
+
+placed : (c : In_default) → Placed c.args.source.now c.args.self
+placed c =
+    place_placed _ _ _ (passed c.serves_views.ensures c.if-not-serves_views.false) (told_passed c.in_default.is c.check_place-place.ensures)
+
+-- past the place's check the answer is the last two links, and past the position's the last
+past : (c : In_default) → check (ltb c.args.index (vertices c.args.self)) bad_index (last c.args.source.now c.args.self c.args.index) ≡ get_vertex_of double c.args.source.now c.args.self c.args.index
+unfolding get_vertex_of
+past c =
+    good _ c.serves_views.ensures c.if-not-serves_views.false (sym (place_rest _ _ _ (placed c)))
+
+past_more : (c : Else-index-offset) → check (ltb c.args.index (vertices c.args.self)) bad_index (last c.args.source.now c.args.self c.args.index) ≡ get_vertex_of double c.args.source.now c.args.self c.args.index
+unfolding get_vertex_of
+past_more c = good _ c.serves_views.ensures c.if-not-serves_views.false (sym (place_rest _ _ _ (place_placed _ _ _ (passed c.serves_views.ensures c.if-not-serves_views.false) (told_passed c.in_default.is c.check_place-place.ensures))))
+
+past2 : (c : Else-index-offset) → last c.args.source.now c.args.self c.args.index ≡ get_vertex_of double c.args.source.now c.args.self c.args.index
+past2 c = simp (lt-ltb _ _ c.if-index-offset.false) at (past_more c)
+
+at : (c : Else-index-offset) → PlacedAt c.args.source.now c.args.self c.args.index
+at c = record { placed = place_placed _ _ _ (passed c.serves_views.ensures c.if-not-serves_views.false) (told_passed c.in_default.is c.check_place-place.ensures); position = c.if-index-offset.false }
+
+pub returns-then-not-serves_views : goal.returns-then-not-serves_views
+unfolding get_vertex_of
+returns-then-not-serves_views c = bad _ c.serves_views.ensures c.if-not-serves_views.true refl
+
+pub returns-in-Refused : goal.returns-in-Refused
+unfolding get_vertex_of
+returns-in-Refused c =
+    good _ c.serves_views.ensures c.if-not-serves_views.false (place_refused _ _ _ _ (told_refused c.in-Refused.is c.check_place-place.ensures))
+
+pub returns-then-index-offset : goal.returns-then-index-offset
+returns-then-index-offset c = simp (le-ltb _ _ c.if-index-offset.true) at (past (goal.at.returns-then-index-offset c).In_default)
+
+pub returns-then-not-lookup_in_range : goal.returns-then-not-lookup_in_range
+returns-then-not-lookup_in_range c = bad _ c.lookup_in_range.ensures c.if-not-lookup_in_range.true refl ∙ past2 (goal.at.returns-then-not-lookup_in_range c).Else-index-offset
+
+pub returns : goal.returns
+returns c =
+    good _ c.lookup_in_range.ensures c.if-not-lookup_in_range.false (rw c.vertex_of.ensures) ∙ past2 (goal.at.returns c).Else-index-offset
+
+pub overflow_add-offset : goal.overflow_add-offset
+overflow_add-offset c = omega (arith, placed c)
+
+pub lookup_in_range-requires : goal.lookup_in_range-requires
+lookup_in_range-requires c = at c
+
+pub vertex_of-requires : goal.vertex_of-requires
+vertex_of-requires c = at (goal.at.vertex_of-requires c).Else-index-offset

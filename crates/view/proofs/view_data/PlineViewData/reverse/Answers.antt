@@ -1,0 +1,17 @@
+-- The shared check's refusal, or the record with its direction flipped.
+use mathlib.Core.Path.{sym}
+use borrow.Author.Rules.{rules}
+use Rattle.plane.specs.Grade.{double}
+use Rattle.lists.specs.View.{turn_view}
+use Rattle.view.specs.Answers.{reverse_of}
+use Rattle.view.proofs.Checks.{told_refused, told_passed, even_refused, evened, even_rest}
+use Rattle.view.proofs.view_data.PlineViewData.reverse.Goals as goal
+
+pub returns-in-Refused : goal.returns-in-Refused
+unfolding reverse_of
+returns-in-Refused c = even_refused double _ _ _ _ (told_refused c.in-Refused.is c.check_even-checked.ensures)
+
+pub returns : goal.returns
+unfolding reverse_of turn_view
+returns c =
+    sym (even_rest double _ _ _ (evened double _ _ _ (told_passed c.in_default.is c.check_even-checked.ensures)))
