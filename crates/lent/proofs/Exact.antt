@@ -16,7 +16,7 @@ use Rattle.view.specs.Answers.{vertex_count_of}
 use Rattle.view.specs.declared.view_data.PlineViewData.{PlineViewData}
 use Rattle.view.proofs.Checks.{checked, checked_rest}
 use Rattle.view.proofs.Shape.{list_numbers}
-use Rattle.view.proofs.Exact.{InFront, in_front}
+use Rattle.view.proofs.Exact.{InFront, in_front_law}
 use Rattle.lent.specs.Lent.{Both, both, has_room_of, in_front, lent_both}
 use Rattle.lent.specs.Values.{list_reply}
 use Rattle.lent.specs.Exact.{ListsExactly}
@@ -42,6 +42,6 @@ module _ (s : List Float) (d : PlineViewData) (before after : Both) where
       let w = stored _ (subst (λ (v : Both). lent_both v before ≡ given after) v a.2) in
       let l = flat (listed double s d) in
       let f : InFront l before.numbers after.numbers (length l) =
-      subst (λ (a : Both). InFront l before.numbers a.numbers (length l)) (sym w.1) (in_front l before.numbers (length l) refl (leb-true _ _ w.0)) in
+      subst (λ (a : Both). InFront l before.numbers a.numbers (length l)) (sym w.1) (in_front_law l before.numbers (length l) refl (leb-true _ _ w.0)) in
       let g : InFront l before.numbers after.numbers (needed d) = subst (λ (n : ℕ). InFront l before.numbers after.numbers n) (list_numbers double s d) f in
       record { count = ap (λ (a : Both). a.words) w.1; written = g.written; kept = g.kept; size = g.size }

@@ -25,8 +25,8 @@ pub record InFront (l out after : List Float) (n : ℕ) : Type 0 where
   pub kept : drop n after ≡ drop n out
   pub size : length after ≡ length out
 
-pub in_front : (l out : List Float) (n : ℕ) → length l ≡ n → n ≤ length out → InFront l out (l ++ drop n out) n
-in_front l out n e h =
+pub in_front_law : (l out : List Float) (n : ℕ) → length l ≡ n → n ≤ length out → InFront l out (l ++ drop n out) n
+in_front_law l out n e h =
     record {
       written = take_at l (drop n out) n e;
       kept = drop_at l (drop n out) n e;
@@ -47,5 +47,5 @@ module _ (g : Grade) (s : List Float) (d : PlineViewData) (out : List Float) (n 
 
   pub writes_exactly : WritesExactly g s d out n
   writes_exactly =
-      let f : InFront (flat (listed g s d)) out (list_buffer g s d out) (needed d) = rw buffer (in_front (flat (listed g s d)) out (needed d) (list_numbers g s d) answered.0) in
+      let f : InFront (flat (listed g s d)) out (list_buffer g s d out) (needed d) = rw buffer (in_front_law (flat (listed g s d)) out (needed d) (list_numbers g s d) answered.0) in
       record { count = answered.1; vertices = list_count g s d; written = f.written; kept = f.kept; size = f.size }

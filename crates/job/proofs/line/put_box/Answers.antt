@@ -1,0 +1,10 @@
+-- The pieces of the line, one after the other.
+use borrow.Author.Rules.{rules}
+use Rattle.text.proofs.Writing.{then, pieces, three}
+use Rattle.job.specs.Lines.{box_words}
+use Rattle.job.proofs.line.put_box.Goals as goal
+
+pub returns : goal.returns
+unfolding box_words
+returns c =
+    then (three pieces c.put_text-a.ensures.piece c.put_floats-c.ensures c.put_floats-d.ensures) c.put_box_end.ensures.piece

@@ -1,0 +1,8 @@
+-- The head is a word, a number and a space.
+use borrow.Author.Rules.{rules}
+use Rattle.job.specs.Lines.{view_head}
+use Rattle.job.proofs.line.put_head.Goals as goal
+
+pub returns : goal.returns
+unfolding view_head
+returns c = c.put_worded.ensures

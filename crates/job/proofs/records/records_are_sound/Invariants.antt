@@ -1,0 +1,19 @@
+-- After k turns the first k records are sound.
+use mathlib.Core.Path.{◌≡◌, refl, sym, ap, ◌∙◌}
+use mathlib.Core.Bool.{true}
+use Prim.Native.Nat.{◌-◌, ◌≤◌}
+use native.Mathlib.Omega.{arith}
+use borrow.Author.Rules.{rules}
+use Rattle.real.proofs.Pick.{passed, failed}
+use Rattle.view.specs.Outline.{all}
+use Rattle.view.proofs.All.{all_more, all_not}
+use Rattle.record.specs.Record.{fields_ok}
+use Rattle.job.specs.declared.header.Header.{Header}
+use Rattle.job.specs.Sheet.{views, record_at_of}
+use Rattle.job.proofs.records.records_are_sound.Given as goal
+
+abbrev pub invariant-loop-k : goal.invariant-loop-k
+invariant-loop-k l = (l.k ≤ l.n) × (all (λ j. fields_ok (record_at_of l.bytes j)) l.k ≡ true)
+
+abbrev pub decreases-loop-k : goal.decreases-loop-k
+decreases-loop-k l = l.n - l.k

@@ -1,0 +1,15 @@
+-- The values are written, or the refusal is handed on.
+use borrow.Author.Rules.{rules}
+use Rattle.seg.specs.Reply.{point_reply}
+use Rattle.real.specs.Reply.{and_then}
+use Rattle.lent.specs.Values.{point_numbers}
+use Rattle.lent.proofs.Laws.{gives, hands_on}
+use Rattle.lent.proofs.give.give_point.Goals as goal
+
+pub returns-in-Given : goal.returns-in-Given
+unfolding and_then
+returns-in-Given c = search (gives point_reply point_numbers)
+
+pub returns-in-Refused : goal.returns-in-Refused
+unfolding and_then
+returns-in-Refused c = search (hands_on point_reply)
