@@ -1,0 +1,10 @@
+-- Past the reading of the segment, the reply is that of the call behind it.
+use borrow.Author.Rules.{rules}
+use Rattle.bisquefern.proofs.Read.{reads}
+use Rattle.bisquefern.proofs.segment.bf_seg_arc_radius_and_center.Goals as goal
+
+pub returns-in-Given : goal.returns-in-Given
+returns-in-Given c = search reads
+
+pub returns-in-Refused : goal.returns-in-Refused
+returns-in-Refused c = search reads

@@ -1,0 +1,10 @@
+-- The header, and then the numbers.
+use borrow.Author.Rules.{rules}
+use Rattle.text.proofs.Writing.{then}
+use Rattle.outline_sheet.specs.Sheet.{sheet_bytes}
+use Rattle.outline_sheet.proofs.sheet.put_sheet.Goals as goal
+
+pub returns : goal.returns
+unfolding sheet_bytes
+returns c =
+    then c.put_header-e.ensures.piece c.put_numbers.ensures
