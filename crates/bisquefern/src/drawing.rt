@@ -6,8 +6,7 @@ ghost use Rattle.lent.specs.Values.{drawn_values};
 use lent::give_drawing;
 
 // The numbers in threes; how many vertices, and 1 for closed or 0. 13, 3, 1, 8.
-#[unsafe(no_mangle)]
-pub extern "C" fn bf_dxf_outline(text: &[u8], out: &mut [f64], whole: &mut [u64]) -> u8
+pub fn bf_dxf_outline(text: &[u8], out: &mut [f64], whole: &mut [u64]) -> u8
     ensures { BothAnswered drawn_values (outline_of text.now) (both whole.old out.old) result (both whole.new out.new) }
 {
     give_drawing(text, out, whole)

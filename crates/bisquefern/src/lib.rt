@@ -1,5 +1,5 @@
-// The library's face for C and what links C. A slice is a pointer and a length. Each function returns 0 where it answers, else
-// document 01's refusal number, and then has written nothing.
+// The library's face for what links C, which `bisquefern_c` exports. Each function returns 0 where it answers, else document 01's
+// refusal number, and then has written nothing.
 #![tactic(auto)]
 
 mod drawing;

@@ -21,8 +21,7 @@ use seg::{
 };
 
 // Radius and centre of an arc. 3, 1, 2, 6, 8.
-#[unsafe(no_mangle)]
-pub extern "C" fn bf_seg_arc_radius_and_center(seg: &[f64], line_limit: f64, out: &mut [f64]) -> u8
+pub fn bf_seg_arc_radius_and_center(seg: &[f64], line_limit: f64, out: &mut [f64]) -> u8
     ensures { Answered values.circle_numbers (of_segment seg.now (seg_circle double line_limit)) out.old result out.new }
 {
     let segment = segment_from_slice(seg);
@@ -36,8 +35,7 @@ pub extern "C" fn bf_seg_arc_radius_and_center(seg: &[f64], line_limit: f64, out
 }
 
 // The updated start and the split vertex. 3, 1, 2, 8.
-#[unsafe(no_mangle)]
-pub extern "C" fn bf_seg_split_at_point(
+pub fn bf_seg_split_at_point(
     seg: &[f64],
     x: f64,
     y: f64,
@@ -58,14 +56,7 @@ pub extern "C" fn bf_seg_split_at_point(
 }
 
 // 3, 1, 2, 8.
-#[unsafe(no_mangle)]
-pub extern "C" fn bf_seg_tangent_vector(
-    seg: &[f64],
-    x: f64,
-    y: f64,
-    line_limit: f64,
-    out: &mut [f64],
-) -> u8
+pub fn bf_seg_tangent_vector(seg: &[f64], x: f64, y: f64, line_limit: f64, out: &mut [f64]) -> u8
     ensures { Answered values.point_numbers (of_segment seg.now (λ v1 v2. seg_tangent double line_limit v1 v2 (point x y))) out.old result out.new }
 {
     let segment = segment_from_slice(seg);
@@ -81,8 +72,7 @@ pub extern "C" fn bf_seg_tangent_vector(
 }
 
 // 3, 1, 2, 8.
-#[unsafe(no_mangle)]
-pub extern "C" fn bf_seg_closest_point(
+pub fn bf_seg_closest_point(
     seg: &[f64],
     x: f64,
     y: f64,
@@ -103,8 +93,7 @@ pub extern "C" fn bf_seg_closest_point(
 }
 
 // 1 where the point is farther than the distance, else 0. 3, 1, 2, 8.
-#[unsafe(no_mangle)]
-pub extern "C" fn bf_seg_distance_is_greater_than(
+pub fn bf_seg_distance_is_greater_than(
     seg: &[f64],
     x: f64,
     y: f64,
@@ -126,8 +115,7 @@ pub extern "C" fn bf_seg_distance_is_greater_than(
 }
 
 // Least x and y, greatest x and y. 3, 1, 2, 8.
-#[unsafe(no_mangle)]
-pub extern "C" fn bf_seg_bounding_box(seg: &[f64], line_limit: f64, out: &mut [f64]) -> u8
+pub fn bf_seg_bounding_box(seg: &[f64], line_limit: f64, out: &mut [f64]) -> u8
     ensures { Answered values.box_numbers (of_segment seg.now (seg_box double line_limit)) out.old result out.new }
 {
     let segment = segment_from_slice(seg);
@@ -138,8 +126,7 @@ pub extern "C" fn bf_seg_bounding_box(seg: &[f64], line_limit: f64, out: &mut [f
 }
 
 // 3, 1, 2, 8.
-#[unsafe(no_mangle)]
-pub extern "C" fn bf_seg_midpoint(seg: &[f64], line_limit: f64, out: &mut [f64]) -> u8
+pub fn bf_seg_midpoint(seg: &[f64], line_limit: f64, out: &mut [f64]) -> u8
     ensures { Answered values.point_numbers (of_segment seg.now (seg_mid double line_limit)) out.old result out.new }
 {
     let segment = segment_from_slice(seg);

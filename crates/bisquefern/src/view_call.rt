@@ -15,8 +15,7 @@ use record::{RecordAnswer, record_from_bytes};
 use view::PlineViewData;
 
 // The record of a view from `vertex` on segment `start`, over `traverse` vertices to (x, y) on segment `intersect`. 3, 1, 2, 5, 4, 5, 8.
-#[unsafe(no_mangle)]
-pub extern "C" fn bf_view_create(
+pub fn bf_view_create(
     outline: &[f64],
     start: u64,
     x: f64,
@@ -54,8 +53,7 @@ pub extern "C" fn bf_view_create(
 }
 
 // The record of a view round a closed outline, from (x, y) on segment `start`. 3, 1, 2, 10, 4, 8.
-#[unsafe(no_mangle)]
-pub extern "C" fn bf_view_from_new_start(
+pub fn bf_view_from_new_start(
     outline: &[f64],
     closed: u8,
     x: f64,
@@ -81,8 +79,7 @@ pub extern "C" fn bf_view_from_new_start(
 }
 
 // The verdict with its counts, the square roots that it took, and its numbers. 11, 12, 3, 1, 2, 4, 8.
-#[unsafe(no_mangle)]
-pub extern "C" fn bf_view_validate(
+pub fn bf_view_validate(
     outline: &[f64],
     bytes: &[u8],
     line_limit: f64,
@@ -103,8 +100,7 @@ pub extern "C" fn bf_view_validate(
 }
 
 // 1 for cut, 0 for hold. 11, 12, 3, 1, 2, 4, 8.
-#[unsafe(no_mangle)]
-pub extern "C" fn bf_view_mark(
+pub fn bf_view_mark(
     outline: &[f64],
     closed: u8,
     bytes: &[u8],
@@ -121,8 +117,7 @@ pub extern "C" fn bf_view_mark(
 }
 
 // How many vertices the view has. 11, 12, 3, 1, 5, 4, 8.
-#[unsafe(no_mangle)]
-pub extern "C" fn bf_view_count(outline: &[f64], bytes: &[u8], out: &mut [u64]) -> u8
+pub fn bf_view_count(outline: &[f64], bytes: &[u8], out: &mut [u64]) -> u8
     ensures { Answered one (of_record bytes.now (vertex_count_of double outline.now)) out.old result out.new }
 {
     let decoded = record_from_bytes(bytes);
@@ -133,8 +128,7 @@ pub extern "C" fn bf_view_count(outline: &[f64], bytes: &[u8], out: &mut [u64]) 
 }
 
 // The vertex at a position. 11, 12, 3, 5, 4, 1, 8.
-#[unsafe(no_mangle)]
-pub extern "C" fn bf_view_get(outline: &[f64], bytes: &[u8], position: u64, out: &mut [f64]) -> u8
+pub fn bf_view_get(outline: &[f64], bytes: &[u8], position: u64, out: &mut [f64]) -> u8
     ensures { Answered vertex_numbers (of_record bytes.now (λ d. get_vertex_of double outline.now d position)) out.old result out.new }
 {
     let decoded = record_from_bytes(bytes);
@@ -145,13 +139,7 @@ pub extern "C" fn bf_view_get(outline: &[f64], bytes: &[u8], position: u64, out:
 }
 
 // All vertices in threes, and how many. 11, 12, 3, 1, 5, 4, 8.
-#[unsafe(no_mangle)]
-pub extern "C" fn bf_view_list(
-    outline: &[f64],
-    bytes: &[u8],
-    out: &mut [f64],
-    count: &mut [u64],
-) -> u8
+pub fn bf_view_list(outline: &[f64], bytes: &[u8], out: &mut [f64], count: &mut [u64]) -> u8
     ensures { BothAnswered itself (of_record bytes.now (list_reply outline.now)) (both count.old out.old) result (both count.new out.new) }
 {
     let decoded = record_from_bytes(bytes);
@@ -162,8 +150,7 @@ pub extern "C" fn bf_view_list(
 }
 
 // The record turned round. 11, 12, 3, 1, 5, 4, 7, 8.
-#[unsafe(no_mangle)]
-pub extern "C" fn bf_view_reverse(outline: &[f64], bytes: &[u8], out: &mut [u8]) -> u8
+pub fn bf_view_reverse(outline: &[f64], bytes: &[u8], out: &mut [u8]) -> u8
     ensures { Answered record_bytes (of_record bytes.now (reverse_of double outline.now)) out.old result out.new }
 {
     let decoded = record_from_bytes(bytes);
@@ -174,8 +161,7 @@ pub extern "C" fn bf_view_reverse(outline: &[f64], bytes: &[u8], out: &mut [u8])
 }
 
 // The record of positions i to j. 11, 12, 3, 1, 5, 4, 7, 9, 8.
-#[unsafe(no_mangle)]
-pub extern "C" fn bf_view_trim(outline: &[f64], bytes: &[u8], i: u64, j: u64, out: &mut [u8]) -> u8
+pub fn bf_view_trim(outline: &[f64], bytes: &[u8], i: u64, j: u64, out: &mut [u8]) -> u8
     ensures { Answered record_bytes (of_record bytes.now (λ d. trim_of double outline.now d i j)) out.old result out.new }
 {
     let decoded = record_from_bytes(bytes);
