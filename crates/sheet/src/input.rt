@@ -1,14 +1,45 @@
-// Reading a sheet.
+// Reading, in which an error is no end of the input.
 ghost use Rattle.std.specs.Prelude.{◌<◌, length};
 ghost use Rattle.job.specs.Sheet.{sheet_bytes};
-ghost use Rattle.console.specs.Within.{Within};
+ghost use Rattle.sheet.specs.Within.{Within};
 
-use console::{Input, read_input};
+use std::io::Read;
 
-// Into room for the longest sheet and a byte more, so that a longer input is seen to be one.
-pub(crate) fn read_sheet(buf: &mut [u8]) -> Input
+// How many bytes were read, from the buffer's start.
+#[derive(Clone, Copy)]
+pub(crate) enum Input {
+    Read(usize),
+    Failed,
+}
+
+// One read; at the end of the input, of no byte.
+fn read_some<R: Read>(reader: &mut R, buf: &mut [u8]) -> Input
+    ensures { Within result (length buf.old) }
+{
+    match reader.read(buf) {
+        Ok(n) => Input::Read(n),
+        Err(_) => Input::Failed,
+    }
+}
+
+// Reads until the buffer is full or the input ends. The buffer has room for the longest sheet and a byte more, so that a longer
+// input is seen to be one.
+pub(crate) fn read_input<R: Read>(reader: &mut R, buf: &mut [u8]) -> Input
     requires { sheet_bytes < length buf.old }
     ensures { Within result (length buf.new) }
 {
-    read_input(buf)
+    let mut done = 0;
+    while done < buf.len() {
+        let step = read_some(reader, &mut buf[done..]);
+        match step {
+            Input::Failed => return Input::Failed,
+            Input::Read(n) => {
+                if n == 0 {
+                    return Input::Read(done);
+                }
+                done += n;
+            }
+        }
+    }
+    Input::Read(done)
 }

@@ -5,22 +5,25 @@
 mod input;
 mod output;
 
-use console::{Input, say};
-use input::read_sheet;
+use input::{Input, read_input};
 use job::SHEET_BYTES;
 use output::write_sheet;
 
-fn answer(bytes: &[u8]) {
-    if !write_sheet(bytes) {
-        say(b"sheet: the output could not be written\n");
+fn say(rt: &impl Eprint, words: &str) {
+    let _ = rt.eprint(words);
+}
+
+fn answer(rt: &HostRuntime, bytes: &[u8]) {
+    if !write_sheet(&mut rt.stdout(), bytes) {
+        say(rt, "sheet: the output could not be written\n");
     }
 }
 
-fn main() {
+fn main(rt: HostRuntime) {
     let mut buffer = [0u8; SHEET_BYTES + 1];
-    let input = read_sheet(&mut buffer);
+    let input = read_input(&mut rt.stdin(), &mut buffer);
     match input {
-        Input::Failed => say(b"sheet: the input could not be read\n"),
-        Input::Read(n) => answer(&buffer[..n]),
+        Input::Failed => say(&rt, "sheet: the input could not be read\n"),
+        Input::Read(n) => answer(&rt, &buffer[..n]),
     }
 }
