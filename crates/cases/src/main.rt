@@ -1,8 +1,6 @@
 // Document 01's cases that are run, and a traced arc at two line limits: each is a line of the stored output.
 #![tactic(auto)]
 
-use io::print_decimal;
-use libc::STDOUT_FILENO;
 use plane::{LINE_LIMIT, PlineVertex, Vector2, VertexAnswer, fuzzy_eq_eps};
 use seg::{
     BoolAnswer, BoxAnswer, PointAnswer, SplitAnswer, seg_bounding_box, seg_closest_point,
@@ -10,21 +8,19 @@ use seg::{
 };
 use view::{CountAnswer, PlineViewData};
 
-fn say(text: &[u8]) {
-    io::write_all(STDOUT_FILENO, text);
+fn say(rt: &impl Print, text: &str) {
+    let _ = rt.print(text);
 }
 
-fn say_refusal(n: u8) {
-    say(b"refused ");
-    print_decimal(STDOUT_FILENO, n as u64);
-    say(b"\n");
+fn say_refusal(rt: &impl Print, n: u8) {
+    let _ = println!(rt; "refused {n}");
 }
 
-fn say_whether(yes: bool) {
+fn say_whether(rt: &impl Print, yes: bool) {
     if yes {
-        say(b"yes\n");
+        say(rt, "yes\n");
     } else {
-        say(b"no\n");
+        say(rt, "no\n");
     }
 }
 
@@ -50,40 +46,40 @@ fn short_view() -> PlineViewData {
     }
 }
 
-fn position_2() {
-    say(b"position 2 with offset 0: ");
+fn position_2(rt: &impl Print) {
+    say(rt, "position 2 with offset 0: ");
     let outline = [0.0f64; 6];
     let answer = short_view().get_vertex(&outline, 2);
     match answer {
-        VertexAnswer::Given(_) => say(b"a vertex\n"),
-        VertexAnswer::Refused(n) => say_refusal(n),
+        VertexAnswer::Given(_) => say(rt, "a vertex\n"),
+        VertexAnswer::Refused(n) => say_refusal(rt, n),
     }
 }
 
-fn tolerance_0() {
-    say(b"tolerance 0: ");
+fn tolerance_0(rt: &impl Print) {
+    say(rt, "tolerance 0: ");
     let p = Vector2 { x: 0.0, y: 0.0 };
     let answer = seg_closest_point(start_of_h(), end_of_h(), p, 0.0, LINE_LIMIT);
     match answer {
-        PointAnswer::Given(_) => say(b"a point\n"),
-        PointAnswer::Refused(n) => say_refusal(n),
+        PointAnswer::Given(_) => say(rt, "a point\n"),
+        PointAnswer::Refused(n) => say_refusal(rt, n),
     }
 }
 
-fn say_count(outline: &[f64]) {
+fn say_count(rt: &impl Print, outline: &[f64]) {
     let answer = short_view().vertex_count(outline);
     match answer {
-        CountAnswer::Given(_) => say(b"pass\n"),
-        CountAnswer::Refused(n) => say_refusal(n),
+        CountAnswer::Given(_) => say(rt, "pass\n"),
+        CountAnswer::Refused(n) => say_refusal(rt, n),
     }
 }
 
-fn most_vertices() {
+fn most_vertices(rt: &impl Print) {
     let outline = [0.0f64; 6003];
-    say(b"2,000 vertices: ");
-    say_count(&outline[..6000]);
-    say(b"2,001 vertices: ");
-    say_count(&outline);
+    say(rt, "2,000 vertices: ");
+    say_count(rt, &outline[..6000]);
+    say(rt, "2,001 vertices: ");
+    say_count(rt, &outline);
 }
 
 // tan(pi/8), to the nearest f64.
@@ -91,59 +87,60 @@ fn is_tan_of_eighth(b: f64) -> bool {
     fuzzy_eq_eps(b, 0.41421356237309503, 1e-8)
 }
 
-fn split_of_h() {
-    say(b"H split at (0.5,-0.5), both bulges fuzzily tan(pi/8): ");
+fn split_of_h(rt: &impl Print) {
+    say(rt, "H split at (0.5,-0.5), both bulges fuzzily tan(pi/8): ");
     let p = Vector2 { x: 0.5, y: -0.5 };
     let answer = seg_split_at_point(start_of_h(), end_of_h(), p, 1e-5, LINE_LIMIT);
     match answer {
         SplitAnswer::Given(split) => {
             let a = split.updated_start;
             let b = split.split_vertex;
-            say_whether(is_tan_of_eighth(a.bulge) && is_tan_of_eighth(b.bulge));
+            say_whether(rt, is_tan_of_eighth(a.bulge) && is_tan_of_eighth(b.bulge));
         }
-        SplitAnswer::Refused(n) => say_refusal(n),
+        SplitAnswer::Refused(n) => say_refusal(rt, n),
     }
 }
 
-fn say_distance(d: f64) {
+fn say_distance(rt: &impl Print, d: f64) {
     let p = Vector2 { x: 0.5, y: 0.0 };
     let answer = seg_distance_is_greater_than(start_of_h(), end_of_h(), p, d, 1e-5, LINE_LIMIT);
     match answer {
-        BoolAnswer::Given(yes) => say_whether(yes),
-        BoolAnswer::Refused(n) => say_refusal(n),
+        BoolAnswer::Given(yes) => say_whether(rt, yes),
+        BoolAnswer::Refused(n) => say_refusal(rt, n),
     }
 }
 
 // An arc whose centre lies 10 km off: its box, and its point that is closest to (1,1).
-fn traced_arc(limit: f64) {
+fn traced_arc(rt: &impl Print, limit: f64) {
     let start = PlineVertex::new(0.0, 0.0, 1e-7);
     let end = PlineVertex::new(4.0, 0.0, 0.0);
-    say(b", box down to 0: ");
+    say(rt, ", box down to 0: ");
     let answer = seg_bounding_box(start, end, limit);
     match answer {
-        BoxAnswer::Given(b) => say_whether(b.min_y == 0.0),
-        BoxAnswer::Refused(n) => say_refusal(n),
+        BoxAnswer::Given(b) => say_whether(rt, b.min_y == 0.0),
+        BoxAnswer::Refused(n) => say_refusal(rt, n),
     }
-    say(b"closest to (1,1) is (1,0): ");
+    say(rt, "closest to (1,1) is (1,0): ");
     let p = Vector2 { x: 1.0, y: 1.0 };
     let answer = seg_closest_point(start, end, p, 1e-5, limit);
     match answer {
-        PointAnswer::Given(q) => say_whether(q.x == 1.0 && q.y == 0.0),
-        PointAnswer::Refused(n) => say_refusal(n),
+        PointAnswer::Given(q) => say_whether(rt, q.x == 1.0 && q.y == 0.0),
+        PointAnswer::Refused(n) => say_refusal(rt, n),
     }
 }
 
-fn main() {
-    position_2();
-    tolerance_0();
-    most_vertices();
-    split_of_h();
-    say(b"distance from (0.5,0) to H over 0.5: ");
-    say_distance(0.5);
-    say(b"over 0.25: ");
-    say_distance(0.25);
-    say(b"(0,0,1e-7) to (4,0), limit 1e-8");
-    traced_arc(1e-8);
-    say(b"limit 1e-6");
-    traced_arc(1e-6);
+fn main(rt: HostRuntime) {
+    let rt = &rt;
+    position_2(rt);
+    tolerance_0(rt);
+    most_vertices(rt);
+    split_of_h(rt);
+    say(rt, "distance from (0.5,0) to H over 0.5: ");
+    say_distance(rt, 0.5);
+    say(rt, "over 0.25: ");
+    say_distance(rt, 0.25);
+    say(rt, "(0,0,1e-7) to (4,0), limit 1e-8");
+    traced_arc(rt, 1e-8);
+    say(rt, "limit 1e-6");
+    traced_arc(rt, 1e-6);
 }

@@ -2,7 +2,7 @@
 use crate::face::{on_outline, on_record, on_segment};
 use crate::print::{print_byte, print_code, print_end, print_numbers, print_record, print_words};
 use crate::read::{numbers, read_words, word};
-use std::num::wrapping_add_u64;
+use std::io::{Read, Write};
 
 // No case has more words, and none of its slices more places.
 const MOST: usize = 8192;
@@ -110,7 +110,7 @@ fn lend(
     lend_all(
         call,
         words,
-        wrapping_add_u64(first, 1),
+        first.wrapping_add(1),
         &s[..n],
         r,
         out,
@@ -120,30 +120,30 @@ fn lend(
 }
 
 // The words that an answer wrote.
-fn print_answer(call: u64, out: &[f64], whole: &[u64], byte: &[u8]) {
+fn print_answer<W: Write>(to: &mut W, call: u64, out: &[f64], whole: &[u64], byte: &[u8]) {
     match call {
-        1 => print_numbers(out, 1),
-        2 | 3 | 15 => print_numbers(out, 3),
-        4 => print_numbers(out, 6),
-        5 | 6 | 9 => print_numbers(out, 2),
-        8 => print_numbers(out, 4),
-        7 | 13 => print_byte(byte),
+        1 => print_numbers(to, out, 1),
+        2 | 3 | 15 => print_numbers(to, out, 3),
+        4 => print_numbers(to, out, 6),
+        5 | 6 | 9 => print_numbers(to, out, 2),
+        8 => print_numbers(to, out, 4),
+        7 | 13 => print_byte(to, byte),
         12 => {
-            print_words(whole, 4);
-            print_numbers(out, 5);
+            print_words(to, whole, 4);
+            print_numbers(to, out, 5);
         }
-        14 => print_words(whole, 1),
+        14 => print_words(to, whole, 1),
         16 => {
             let n = word(whole, 0);
-            print_numbers(out, wrapping_add_u64(n, wrapping_add_u64(n, n)));
-            print_words(whole, 1);
+            print_numbers(to, out, n.wrapping_add(n.wrapping_add(n)));
+            print_words(to, whole, 1);
         }
-        _ => print_record(byte),
+        _ => print_record(to, byte),
     }
 }
 
 // Case k, of a call with n words.
-pub fn run(k: u64, call: u64, n: u64) -> bool {
+pub fn run<R: Read, W: Write>(from: &mut R, to: &mut W, k: u64, call: u64, n: u64) -> bool {
     if n < 2 {
         return false;
     }
@@ -152,14 +152,14 @@ pub fn run(k: u64, call: u64, n: u64) -> bool {
     let mut out = [0.0; MOST];
     let mut whole = [0u64; 16];
     let mut byte = [0u8; 256];
-    read_words(&mut words, n);
+    read_words(from, &mut words, n);
     numbers(&words, 1, n, &mut s);
     let r = room_of(call, word(&words, n - 2), word(&words, n - 1));
     let code = lend(call, &words, &s, r, &mut out, &mut whole, &mut byte);
-    print_code(k, code);
+    print_code(to, k, code);
     if code == 0 {
-        print_answer(call, &out, &whole, &byte);
+        print_answer(to, call, &out, &whole, &byte);
     }
-    print_end();
+    print_end(to);
     true
 }

@@ -6,7 +6,6 @@ use bisquefern::{
     bf_sqrt, bf_vertex, bf_view_count, bf_view_create, bf_view_from_new_start, bf_view_get,
     bf_view_list, bf_view_mark, bf_view_reverse, bf_view_trim, bf_view_validate,
 };
-use std::num::wrapping_add_u64;
 
 // What a line says of a case that does not fit.
 const UNFIT: u8 = 255;
@@ -21,10 +20,10 @@ pub fn on_segment(
     byte: &mut [u8],
 ) -> u8 {
     let x = number(words, at);
-    let y = number(words, wrapping_add_u64(at, 1));
-    let a = number(words, wrapping_add_u64(at, 2));
-    let b = number(words, wrapping_add_u64(at, 3));
-    let c = number(words, wrapping_add_u64(at, 4));
+    let y = number(words, at.wrapping_add(1));
+    let a = number(words, at.wrapping_add(2));
+    let b = number(words, at.wrapping_add(3));
+    let c = number(words, at.wrapping_add(4));
     match call {
         1 => bf_sqrt(x, out),
         2 => bf_vertex(s, out),
@@ -40,13 +39,13 @@ pub fn on_segment(
 
 fn create(words: &[u64], at: u64, s: &[f64], vertex: &[f64], out: &mut [u8]) -> u8 {
     let start = word(words, at);
-    let x = number(words, wrapping_add_u64(at, 1));
-    let y = number(words, wrapping_add_u64(at, 2));
-    let intersect = word(words, wrapping_add_u64(at, 3));
-    let past = wrapping_add_u64(at, wrapping_add_u64(5, vertex.len() as u64));
+    let x = number(words, at.wrapping_add(1));
+    let y = number(words, at.wrapping_add(2));
+    let intersect = word(words, at.wrapping_add(3));
+    let past = at.wrapping_add(5u64.wrapping_add(vertex.len() as u64));
     let traverse = word(words, past);
-    let tolerance = number(words, wrapping_add_u64(past, 1));
-    let limit = number(words, wrapping_add_u64(past, 2));
+    let tolerance = number(words, past.wrapping_add(1));
+    let limit = number(words, past.wrapping_add(2));
     bf_view_create(
         s, start, x, y, intersect, vertex, traverse, tolerance, limit, out,
     )
@@ -54,11 +53,11 @@ fn create(words: &[u64], at: u64, s: &[f64], vertex: &[f64], out: &mut [u8]) -> 
 
 fn new_start(words: &[u64], at: u64, s: &[f64], out: &mut [u8]) -> u8 {
     let closed = low_byte(word(words, at));
-    let x = number(words, wrapping_add_u64(at, 1));
-    let y = number(words, wrapping_add_u64(at, 2));
-    let start = word(words, wrapping_add_u64(at, 3));
-    let tolerance = number(words, wrapping_add_u64(at, 4));
-    let limit = number(words, wrapping_add_u64(at, 5));
+    let x = number(words, at.wrapping_add(1));
+    let y = number(words, at.wrapping_add(2));
+    let start = word(words, at.wrapping_add(3));
+    let tolerance = number(words, at.wrapping_add(4));
+    let limit = number(words, at.wrapping_add(5));
     bf_view_from_new_start(s, closed, x, y, start, tolerance, limit, out)
 }
 
@@ -75,8 +74,8 @@ pub fn on_outline(call: u64, words: &[u64], at: u64, s: &[f64], out: &mut [u8]) 
         return new_start(words, at, s, out);
     }
     let mut vertex = [0.0; 16];
-    let n = word(words, wrapping_add_u64(at, 4));
-    numbers(words, wrapping_add_u64(at, 5), n, &mut vertex);
+    let n = word(words, at.wrapping_add(4));
+    numbers(words, at.wrapping_add(5), n, &mut vertex);
     create_of(words, at, s, &vertex, n as usize, out)
 }
 
@@ -93,7 +92,7 @@ fn with_record(
     byte: &mut [u8],
 ) -> u8 {
     let i = word(words, past);
-    let j = word(words, wrapping_add_u64(past, 1));
+    let j = word(words, past.wrapping_add(1));
     let limit = number(words, past);
     match call {
         12 => bf_view_validate(s, record, limit, whole, out),
@@ -122,7 +121,7 @@ fn record_of(
     if n > record.len() {
         return UNFIT;
     }
-    let past = wrapping_add_u64(from, wrapping_add_u64(1, wrapping_add_u64(n as u64, 7) / 8));
+    let past = from.wrapping_add(1u64.wrapping_add((n as u64).wrapping_add(7) / 8));
     with_record(call, words, past, closed, s, &record[..n], out, whole, byte)
 }
 
@@ -137,12 +136,8 @@ pub fn on_record(
     byte: &mut [u8],
 ) -> u8 {
     let closed = low_byte(word(words, at));
-    let from = if call == 13 {
-        wrapping_add_u64(at, 1)
-    } else {
-        at
-    };
+    let from = if call == 13 { at.wrapping_add(1) } else { at };
     let mut record = [0u8; 256];
-    bytes(words, wrapping_add_u64(from, 1), &mut record);
+    bytes(words, from.wrapping_add(1), &mut record);
     record_of(call, words, from, closed, s, &record, out, whole, byte)
 }

@@ -12,20 +12,23 @@ mod read;
 
 use case::run;
 use read::{Next, read_word};
+use std::io::{Read, Write};
 
 // One case: its number, and whether there was one.
-fn step(k: u64) -> bool {
-    let head = read_word();
+fn step<R: Read, W: Write>(from: &mut R, to: &mut W, k: u64) -> bool {
+    let head = read_word(from);
     match head {
-        Next::Read(w) => run(k, w % 4294967296, w / 4294967296),
+        Next::Read(w) => run(from, to, k, w % 4294967296, w / 4294967296),
         Next::End => false,
     }
 }
 
 // Nothing says that the input ends, so the cases are counted up to a number that no list reaches.
-fn main() {
+fn main(rt: HostRuntime) {
+    let mut from = rt.stdin();
+    let mut to = rt.stdout();
     let mut k = 0;
-    while k < 4294967296 && step(k) {
+    while k < 4294967296 && step(&mut from, &mut to, k) {
         k += 1;
     }
 }

@@ -1,8 +1,8 @@
 // Words from standard input and from the words of a case.
 ghost use Rattle.std.specs.Prelude.{◌<◌};
 
-use libc::STDIN_FILENO;
 use real::from_bits;
+use std::io::Read;
 
 #[derive(Clone, Copy)]
 pub enum Next {
@@ -27,20 +27,19 @@ pub fn word_of(b: &[u8; 8]) -> u64 {
     half(b[0], b[1], b[2], b[3]) + 4294967296 * half(b[4], b[5], b[6], b[7])
 }
 
-pub fn read_word() -> Next {
+pub fn read_word<R: Read>(from: &mut R) -> Next {
     let mut b = [0u8; 8];
-    let n = io::read_full(STDIN_FILENO, &mut b);
-    if n < 8 {
+    if from.read_exact(&mut b).is_err() {
         return Next::End;
     }
     Next::Read(word_of(&b))
 }
 
 // n words, as far as there is room and input.
-pub fn read_words(words: &mut [u64], n: u64) {
+pub fn read_words<R: Read>(from: &mut R, words: &mut [u64], n: u64) {
     let mut k = 0;
     while k < words.len() && (k as u64) < n {
-        let next = read_word();
+        let next = read_word(from);
         match next {
             Next::Read(w) => {
                 words[k] = w;
@@ -71,7 +70,7 @@ pub fn low_byte(x: u64) -> u8 {
 pub fn numbers(words: &[u64], at: u64, n: u64, out: &mut [f64]) {
     let mut k = 0;
     while k < out.len() && (k as u64) < n {
-        out[k] = number(words, std::num::wrapping_add_u64(at, k as u64));
+        out[k] = number(words, at.wrapping_add(k as u64));
         k += 1;
     }
 }
@@ -80,7 +79,7 @@ pub fn numbers(words: &[u64], at: u64, n: u64, out: &mut [f64]) {
 pub fn bytes(words: &[u64], at: u64, out: &mut [u8]) {
     let mut k = 0;
     while k < out.len() {
-        let w = word(words, std::num::wrapping_add_u64(at, k as u64 / 8));
+        let w = word(words, at.wrapping_add(k as u64 / 8));
         out[k] = low_byte(w >> (k as u64 % 8 * 8));
         k += 1;
     }

@@ -1,7 +1,0 @@
--- The first slice is cut within its space.
-use Rattle.std.proofs.Common.{sym, arith, length-take-le, rules}
-use Rattle.replay.proofs.case.lend.Statement.{statement}
-use Rattle.replay.proofs.case.lend.Tie as tie
-
-pub lend_spec : {M : Type 1} → statement M
-lend_spec = tie.close (tie.spec (λ c. search rules) (λ c κs. tt) (λ c. search rules) (λ c. search rules) (λ c. search rules) (λ c. search rules) (λ c κs. tt) (λ c. search rules) (λ c κs. tt) (λ c. sym (length-take-le _ _ (omega arith))) (λ c κs. tt) (λ c. search rules) (λ c. search rules) (λ c. search rules) (λ c. search rules))
