@@ -1,5 +1,5 @@
 -- The refusals in their order, and then the sheet, which stands at the buffer's start.
-use mathlib.Core.Path.{ap, ◌∙◌}
+use mathlib.Core.Path.{◌≡◌, ap, ◌∙◌}
 use mathlib.Core.List.{◌++◌}
 use Prim.Native.Nat.{ℕ, ◌/◌, ◌%◌, ◌≤◌}
 use mathlib.Core.Bool.{◌&&◌}
@@ -14,7 +14,7 @@ use Rattle.real.specs.Reply.{given}
 use Rattle.plane.specs.Range.{most_vertices, whole_outline}
 use Rattle.record.specs.Record.{buffer_by}
 use Rattle.text.proofs.Writing.{filled}
-use Rattle.outline_sheet.specs.Sheet.{sheet_bytes, sheet_to, sheet_buffer}
+use Rattle.outline_sheet.specs.Sheet.{sheet_size, sheet_bytes, sheet_to, sheet_buffer}
 use Rattle.outline_sheet.proofs.Written.{sheet_length}
 use Rattle.outline_sheet.proofs.sheet.outline_sheet.Goals as goal
 
@@ -39,8 +39,19 @@ returns-then-outline-out c =
 
 pub put_sheet-requires : goal.put_sheet-requires
 unfolding whole_outline
-put_sheet-requires c = ?
+put_sheet-requires c =
+    let n = length c.args.outline.now in
+    leb-true (n / 3) most_vertices (and_both (eqb (n % 3) 0) _ (passed c.outline_is_whole.ensures c.if-not-outline_is_whole.false)).1
 
 pub returns : goal.returns
 unfolding sheet_to sheet_buffer buffer_by
-returns c = ?
+returns c =
+    let s = c.args.outline.now in
+    let w = passed c.outline_is_whole.ensures c.if-not-outline_is_whole.false in
+    let r = passed c.vertices_in_range.ensures c.if-not-vertices_in_range.false in
+    let m = le-leb _ _ c.if-outline-out.false in
+    let n = sheet_length s c.args.closed in
+    let p = c.put_sheet.ensures.wrote (omega (arith, n, c.if-outline-out.false)) in
+    let e : c.put_sheet.result ≡ sheet_size s = p.end ∙ omega (arith, n) in
+    let f = filled p (omega (arith, e, c.if-outline-out.false)) in
+    (simp (w, r, m) (ap given e), simp (w, r, m) (f.holds ∙ ap (λ (k : ℕ). sheet_bytes s c.args.closed ++ drop k c.args.out.now) e))
