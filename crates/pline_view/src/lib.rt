@@ -1,4 +1,4 @@
-// The crate's `PlineView`, a struct that borrows its outline. Its functions are walked by hand.
+// The crate's `PlineView`, a struct that borrows its outline.
 #![tactic(auto)]
 
 mod pline_view;
