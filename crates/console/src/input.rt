@@ -2,7 +2,7 @@
 ghost use Rattle.std.specs.Prelude.{length};
 ghost use Rattle.console.specs.Within.{Within};
 
-use libc::STDIN_FILENO;
+use std::io::Read;
 
 // How many bytes were read, from the buffer's start.
 #[derive(Clone, Copy)]
@@ -12,23 +12,22 @@ pub enum Input {
 }
 
 // One read; at the end of the input, of no byte.
-fn read_some(buf: &mut [u8]) -> Input
+fn read_some<R: Read>(reader: &mut R, buf: &mut [u8]) -> Input
     ensures { Within result (length buf.old) }
 {
-    let got = libc::read(STDIN_FILENO, buf);
-    if got < 0 {
-        return Input::Failed;
+    match reader.read(buf) {
+        Ok(n) => Input::Read(n),
+        Err(_) => Input::Failed,
     }
-    Input::Read(io::count(got, buf))
 }
 
 // Reads until the buffer is full or the input ends.
-pub fn read_input(buf: &mut [u8]) -> Input
+pub fn read_input<R: Read>(reader: &mut R, buf: &mut [u8]) -> Input
     ensures { Within result (length buf.new) }
 {
     let mut done = 0;
     while done < buf.len() {
-        let step = read_some(&mut buf[done..]);
+        let step = read_some(reader, &mut buf[done..]);
         match step {
             Input::Failed => return Input::Failed,
             Input::Read(n) => {

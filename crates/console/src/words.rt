@@ -1,6 +1,4 @@
 // Words for the one who runs a program.
-use libc::STDERR_FILENO;
-
-pub fn say(words: &[u8]) {
-    io::write_all(STDERR_FILENO, words);
+pub fn say(rt: &impl Eprint, words: &str) {
+    let _ = rt.eprint(words);
 }

@@ -5,14 +5,14 @@ use mathlib.Core.Bool.{Bool, true, false, cond, ◌&&◌, true≢false}
 use mathlib.Core.Option.{Option, none, some, none-ne-some, some-injective}
 use Prim.Native.Nat.{ℕ, ◌+◌, ◌-◌, ◌*◌, ◌/◌, ◌%◌, ◌≤◌}
 use native.Mathlib.Omega.{arith}
-use lib.ListN.{length, take, drop, set, length-set, length-append}
+use lib.ListN.{length, take, drop, length-set, length-append}
 use lib.Seq.{take_at}
-use lib.Dec.{T, leb, eqb}
-use lib.Ieee.{Float, binary64, fits}
+use lib.Dec.{leb, eqb}
+use lib.Ieee.{Float, binary64}
 use lib.Ieee.Bits.{of_bits-fits}
 use borrow.Author.Tests.{leb-true, le-leb, eqb-true, eq-eqb}
 use Rattle.real.specs.Refusal.{bad_text, bad_number, bad_outline, lacks_room}
-use Rattle.real.specs.Reply.{Reply, refused, given, check, and_then}
+use Rattle.real.specs.Reply.{Reply, refused, given, and_then}
 use Rattle.real.proofs.Replies.{same_given, never_given, check_given, check_failed, and_both, went_on}
 use Rattle.plane.specs.Grade.{double}
 use Rattle.plane.specs.Range.{most_vertices, whole_outline}

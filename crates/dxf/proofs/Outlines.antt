@@ -15,7 +15,7 @@ use Rattle.view.specs.Outline.{numbers_ok}
 use Rattle.dxf.specs.Item.{items_at}
 use Rattle.dxf.specs.Entity.{Seen, entity_of}
 use Rattle.dxf.specs.State.{Holds, Read}
-use Rattle.dxf.specs.Outline.{Drawn, judged, outline_of, room_for, handed_over, outline_to, outline_buffer, Answers, dxf_reply}
+use Rattle.dxf.specs.Outline.{Drawn, judged, outline_of, room_for, handed_over, Answers}
 use Rattle.dxf.specs.declared.state.State.{State}
 use Rattle.dxf.specs.declared.state.StepAnswer.{StepAnswer}
 use Rattle.dxf.specs.declared.state.StepAnswer.TheVariants as step_case

@@ -18,7 +18,7 @@ use Rattle.real.specs.Reply.{Reply, refused, given, and_then}
 use Rattle.plane.specs.Grade.{double}
 use Rattle.plane.specs.Range.{most_vertices}
 use Rattle.view.specs.Outline.{count_of}
-use Rattle.numeral.specs.Digits.{is_whole, value_of, cap, kept, whole_of}
+use Rattle.numeral.specs.Digits.{value_of, whole_of}
 use Rattle.numeral.specs.Decimal.{number_of}
 use Rattle.numeral.proofs.Values.{kept_under, kept_parity, kept_only, whole_read, whole_bad}
 use Rattle.dxf.specs.Entity.{Seen, count_step, closed_step, x_step, y_step, bulge_step, step_from, step_of, settled, counts}

@@ -1,7 +1,7 @@
 -- Lines in pairs, a code and its value: "A code is 1 to 4 digits."
 use Rattle.std.specs.Prelude.{ℕ, ◌+◌, ◌≤◌, Bool, cond, ◌&&◌, ◌≡◌, List, [], ◌∷◌, length, drop, leb}
 use Rattle.real.specs.Refusal.{bad_text}
-use Rattle.real.specs.Reply.{Reply, refused, given, check}
+use Rattle.real.specs.Reply.{Reply, given, check}
 use Rattle.numeral.specs.Digits.{is_whole, value_of}
 use Rattle.dxf.specs.Line.{lines_of, part}
 use Rattle.dxf.specs.declared.item.ItemAnswer.{ItemAnswer}

@@ -7,7 +7,7 @@ use Rattle.plane.specs.Range.{most_vertices}
 use Rattle.view.specs.Outline.{count_of, numbers_ok}
 use Rattle.dxf.specs.Line.{lines_of}
 use Rattle.dxf.specs.Item.{items_of}
-use Rattle.dxf.specs.Entity.{Seen, entity_of}
+use Rattle.dxf.specs.Entity.{entity_of}
 use Rattle.dxf.specs.declared.outline.DxfOutline.{DxfOutline}
 use Rattle.dxf.specs.declared.outline.DxfAnswer.{DxfAnswer}
 use Rattle.dxf.specs.declared.outline.DxfAnswer.TheVariants as dxf-case

@@ -8,22 +8,24 @@ mod output;
 use console::{Input, say};
 use input::{DRAWING_BYTES, read_drawing};
 use output::write_drawing;
+use std::alloc::AllocError;
 
-fn answer(text: &[u8]) {
+fn answer(rt: &HostRuntime, text: &[u8]) {
     if text.len() > DRAWING_BYTES {
-        say(b"dxf_sheet: the drawing is longer than 4194304 bytes\n");
+        say(rt, "dxf_sheet: the drawing is longer than 4194304 bytes\n");
         return;
     }
-    if !write_drawing(text) {
-        say(b"dxf_sheet: the output could not be written\n");
+    if !write_drawing(&mut rt.stdout(), &mut rt.stderr(), text) {
+        say(rt, "dxf_sheet: the output could not be written\n");
     }
 }
 
-fn main() {
-    let mut buffer = [0u8; DRAWING_BYTES + 1];
-    let input = read_drawing(&mut buffer);
+fn main(rt: HostRuntime) -> Result<(), AllocError> {
+    let mut buffer = vec![in rt.alloc(); 0u8; DRAWING_BYTES + 1]?;
+    let input = read_drawing(&mut rt.stdin(), &mut buffer);
     match input {
-        Input::Failed => say(b"dxf_sheet: the input could not be read\n"),
-        Input::Read(n) => answer(&buffer[..n]),
+        Input::Failed => say(&rt, "dxf_sheet: the input could not be read\n"),
+        Input::Read(n) => answer(&rt, &buffer[..n]),
     }
+    Ok(())
 }

@@ -8,54 +8,60 @@ ghost use Rattle.dxf_sheet.specs.Drawing.{drawing_sheet};
 
 use dxf::{DxfAnswer, OUTLINE_NUMBERS, dxf_outline};
 use job::{PART_BYTES, refused_sheet};
-use libc::{STDERR_FILENO, STDOUT_FILENO};
 use outline_sheet::{OUTLINE_SHEET_BYTES, outline_sheet};
 use record::BytesAnswer;
+use std::io::Write;
 
 // Hands on the sheet of a drawing; false where the output takes no more.
-fn hand_sheet(drawing: &[u8], bytes: &[u8], n: usize) -> bool
+fn hand_sheet<W: Write>(out: &mut W, drawing: &[u8], bytes: &[u8], n: usize) -> bool
     requires { (n ≤ length bytes.now) × (drawing_sheet drawing.now ≡ given (take n bytes.now)) }
 {
-    io::write_all(STDOUT_FILENO, &bytes[..n])
+    out.write_all(&bytes[..n]).is_ok()
 }
 
 // Hands on the words of a refusal.
-fn hand_words(number: u8, text: &[u8], n: usize) -> bool
+fn hand_words<E: Write>(said: &mut E, number: u8, text: &[u8], n: usize) -> bool
     requires { Begins (refused_line number) text.now n }
 {
-    io::write_all(STDERR_FILENO, &text[..n])
+    said.write_all(&text[..n]).is_ok()
 }
 
 // Says that a drawing is refused, and with which number.
-fn refuse(drawing: &[u8], number: u8) -> bool
+fn refuse<E: Write>(said: &mut E, drawing: &[u8], number: u8) -> bool
     requires { drawing_sheet drawing.now ≡ refused number }
 {
     let mut text = [0u8; PART_BYTES];
     let n = refused_sheet(number, &mut text);
-    hand_words(number, &text, n)
+    hand_words(said, number, &text, n)
 }
 
 // Writes the sheet of a drawing's outline, which no sheet refuses.
-fn write_outline(drawing: &[u8], outline: &[f64], closed: bool) -> bool
+fn write_outline<W: Write, E: Write>(
+    out: &mut W,
+    said: &mut E,
+    drawing: &[u8],
+    outline: &[f64],
+    closed: bool,
+) -> bool
     requires { outline_of drawing.now ≡ given (record { numbers = outline.now; closed = closed }) }
 {
     let mut bytes = [0u8; OUTLINE_SHEET_BYTES];
     let answer = outline_sheet(outline, closed, &mut bytes);
     match answer {
-        BytesAnswer::Refused(number) => refuse(drawing, number),
-        BytesAnswer::Given(n) => hand_sheet(drawing, &bytes, n),
+        BytesAnswer::Refused(number) => refuse(said, drawing, number),
+        BytesAnswer::Given(n) => hand_sheet(out, drawing, &bytes, n),
     }
 }
 
 // Writes the sheet of a drawing, or says its refusal; false where the output takes no more.
-pub(crate) fn write_drawing(drawing: &[u8]) -> bool {
+pub(crate) fn write_drawing<W: Write, E: Write>(out: &mut W, said: &mut E, drawing: &[u8]) -> bool {
     let mut numbers = [0.0f64; OUTLINE_NUMBERS];
     let answer = dxf_outline(drawing, &mut numbers);
     match answer {
-        DxfAnswer::Refused(number) => refuse(drawing, number),
+        DxfAnswer::Refused(number) => refuse(said, drawing, number),
         DxfAnswer::Given(outline) => {
             let n = 3 * outline.vertices;
-            write_outline(drawing, &numbers[..n], outline.closed)
+            write_outline(out, said, drawing, &numbers[..n], outline.closed)
         }
     }
 }

@@ -1,7 +1,7 @@
 -- What digits stand for, read from the left, and how much of it a machine word keeps.
 use mathlib.Core.Path.{◌≡◌, refl, sym, ap, ◌∙◌, subst}
 use mathlib.Core.List.{List, [], ◌∷◌, ◌++◌}
-use mathlib.Core.Bool.{Bool, true, false, ◌&&◌}
+use mathlib.Core.Bool.{true, false}
 use Prim.Native.Nat.{ℕ, suc, ◌+◌, ◌-◌, ◌*◌, ◌%◌, ◌^◌, ◌≤◌, ◌<◌}
 use native.Mathlib.Nat.{le_trans, le_refl, le_of_eq, lt_of_lt_of_le, pow-succ', pow-le-pow_right, add-zero, lt_irrefl, lt_of_not-le}
 use native.Mathlib.Decide.{dec_le}

@@ -1,3 +1,3 @@
 -- The theorem: Reopens.
-mod Written
+pub mod Written
 pub mod Reopens

@@ -1,10 +1,7 @@
 -- After some turns the items from i on, read on from what is seen, give the whole.
 use mathlib.Core.Path.{refl}
-use Prim.Native.Nat.{◌-◌}
 use native.Mathlib.Omega.{arith}
-use borrow.Author.Rules.{rules}
-use lib.ListN.{length}
-use Rattle.dxf.proofs.Turns.{Going, going_start, body_done, body_early, body_bad, body_more}
+use Rattle.dxf.proofs.Turns.{going_start, body_done, body_early, body_bad, body_more}
 use Rattle.dxf.proofs.entity.body.Goals as goal
 
 pub loop-k-init : goal.loop-k-init

@@ -1,5 +1,4 @@
 -- The two tests, one after the other.
-use borrow.Author.Rules.{rules}
 use Rattle.dxf.proofs.entity.ends.Goals as goal
 
 pub returns-then-not-waits : goal.returns-then-not-waits

@@ -1,10 +1,7 @@
 -- After some turns the entity, if there is one, begins at i or after it.
 use mathlib.Core.Path.{refl}
-use Prim.Native.Nat.{◌-◌}
 use native.Mathlib.Omega.{arith}
-use borrow.Author.Rules.{rules}
-use lib.ListN.{length}
-use Rattle.dxf.proofs.Turns.{Looking, found_within, read_found, read_none, look_on}
+use Rattle.dxf.proofs.Turns.{found_within, read_found, read_none, look_on}
 use Rattle.dxf.proofs.entity.read.Goals as goal
 
 pub body-requires : goal.body-requires

@@ -1,9 +1,8 @@
 -- After i turns the first i bytes are the same, so that the rest decides.
 use mathlib.Core.Path.{◌≡◌, refl, sym, ◌∙◌}
-use Prim.Native.Nat.{◌-◌, ◌≤◌, ◌<◌}
+use Prim.Native.Nat.{◌<◌}
 use native.Mathlib.Omega.{arith}
-use lib.ListN.{length, drop}
-use Rattle.dxf.specs.Entity as entity
+use lib.ListN.{length}
 use Rattle.dxf.proofs.Names.{same_long, same_here, not_here, same_past}
 use Rattle.dxf.proofs.entity.same.Goals as goal
 

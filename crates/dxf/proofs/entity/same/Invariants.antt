@@ -1,10 +1,8 @@
 -- After i turns the first i bytes are the same, so that the rest decides.
-use mathlib.Core.Path.{◌≡◌, refl, sym, ◌∙◌}
-use Prim.Native.Nat.{◌-◌, ◌≤◌, ◌<◌}
-use native.Mathlib.Omega.{arith}
+use mathlib.Core.Path.{◌≡◌}
+use Prim.Native.Nat.{◌-◌, ◌≤◌}
 use lib.ListN.{length, drop}
 use Rattle.dxf.specs.Entity as entity
-use Rattle.dxf.proofs.Names.{same_long, same_here, not_here, same_past}
 use Rattle.dxf.proofs.entity.same.Given as goal
 
 abbrev pub invariant-loop-i : goal.invariant-loop-i

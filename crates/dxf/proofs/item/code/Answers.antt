@@ -1,6 +1,5 @@
 -- Four digits at most, and then a whole number.
 use mathlib.Core.Path.{◌∙◌}
-use borrow.Author.Rules.{rules}
 use Rattle.dxf.proofs.Items.{code_long, code_short}
 use Rattle.dxf.proofs.item.code.Goals as goal
 

@@ -1,7 +1,6 @@
 -- The code's line, and then the value's.
 use mathlib.Core.Path.{sym, ap, ◌∙◌}
 use native.Mathlib.Omega.{arith}
-use borrow.Author.Rules.{rules}
 use lib.ListN.{drop_of_length-le}
 use Rattle.numeral.specs.Digits.{whole_reply}
 use Rattle.dxf.proofs.Items.{no_item, item_odd, item_of}

@@ -1,7 +1,6 @@
 -- The value's line, or none.
 use mathlib.Core.Path.{refl, ap}
 use native.Mathlib.Omega.{arith}
-use borrow.Author.Rules.{rules}
 use lib.ListN.{drop_of_length-le}
 use Rattle.dxf.specs.Line.{lines_of, cut}
 use Rattle.dxf.specs.Item.{Valued}

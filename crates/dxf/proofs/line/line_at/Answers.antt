@@ -1,7 +1,6 @@
 -- The line's end, its text's end and its text's start, one after the other.
 use Prim.Native.Nat.{◌≤◌, ◌<◌}
 use native.Mathlib.Omega.{arith}
-use borrow.Author.Rules.{rules}
 use borrow.Author.Tests.{lt-ltb, le-ltb}
 use lib.ListN.{length}
 use Rattle.dxf.proofs.Lines.{line_lf, line_last}

@@ -1,11 +1,8 @@
 -- After some turns there is no LF before i.
-use mathlib.Core.Path.{◌≡◌, ap}
-use mathlib.Core.Bool.{true}
-use Prim.Native.Nat.{◌-◌, ◌≤◌}
+use mathlib.Core.Path.{ap}
 use native.Mathlib.Nat.{not-le_of_lt}
 use native.Mathlib.Omega.{arith}
-use lib.ListN.{length}
-use Rattle.dxf.specs.Line.{part, no_lf}
+use Rattle.dxf.specs.Line.{no_lf}
 use Rattle.dxf.proofs.Lines.{part_none, ends_more}
 use Rattle.dxf.proofs.line.line_end.Goals as goal
 

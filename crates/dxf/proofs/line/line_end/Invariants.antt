@@ -1,12 +1,9 @@
 -- After some turns there is no LF before i.
-use mathlib.Core.Path.{◌≡◌, ap}
+use mathlib.Core.Path.{◌≡◌}
 use mathlib.Core.Bool.{true}
 use Prim.Native.Nat.{◌-◌, ◌≤◌}
-use native.Mathlib.Nat.{not-le_of_lt}
-use native.Mathlib.Omega.{arith}
 use lib.ListN.{length}
 use Rattle.dxf.specs.Line.{part, no_lf}
-use Rattle.dxf.proofs.Lines.{part_none, ends_more}
 use Rattle.dxf.proofs.line.line_end.Given as goal
 
 abbrev pub invariant-loop-i : goal.invariant-loop-i

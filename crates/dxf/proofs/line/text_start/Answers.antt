@@ -1,8 +1,6 @@
 -- After some turns the bytes from s to i are spaces.
 use mathlib.Core.Path.{◌≡◌, refl, sym, ◌∙◌}
-use Prim.Native.Nat.{◌-◌, ◌≤◌}
 use native.Mathlib.Omega.{arith}
-use Rattle.dxf.specs.Line.{part, skip_spaces}
 use Rattle.dxf.proofs.Lines.{space_here, text_here, no_text}
 use Rattle.dxf.proofs.line.text_start.Goals as goal
 

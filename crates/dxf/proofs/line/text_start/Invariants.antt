@@ -1,9 +1,7 @@
 -- After some turns the bytes from s to i are spaces.
-use mathlib.Core.Path.{◌≡◌, refl, sym, ◌∙◌}
+use mathlib.Core.Path.{◌≡◌}
 use Prim.Native.Nat.{◌-◌, ◌≤◌}
-use native.Mathlib.Omega.{arith}
 use Rattle.dxf.specs.Line.{part, skip_spaces}
-use Rattle.dxf.proofs.Lines.{space_here, text_here, no_text}
 use Rattle.dxf.proofs.line.text_start.Given as goal
 
 abbrev pub invariant-loop-i : goal.invariant-loop-i

@@ -1,10 +1,7 @@
 -- The loop's invariant: the first k numbers stand in the buffer, and then what it held.
-use Prim.Native.Nat.{◌-◌}
 use native.Mathlib.Omega.{arith}
-use borrow.Author.Rules.{rules}
-use lib.ListN.{length}
 use lib.Ieee.{nan}
-use Rattle.lists.proofs.Copying.{Copying, copy_none, copy_more, copy_all}
+use Rattle.lists.proofs.Copying.{copy_none, copy_more, copy_all}
 use Rattle.dxf.proofs.outline.copy.Goals as goal
 
 pub loop-k-preserved : goal.loop-k-preserved

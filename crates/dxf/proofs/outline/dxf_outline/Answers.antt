@@ -1,5 +1,4 @@
 -- What was read is judged and handed over, or its refusal handed on.
-use borrow.Author.Rules.{rules}
 use Rattle.dxf.specs.Outline.{outline_to, outline_buffer}
 use Rattle.dxf.proofs.Outlines.{dxf_bad, dxf_good}
 use Rattle.dxf.proofs.outline.dxf_outline.Goals as goal

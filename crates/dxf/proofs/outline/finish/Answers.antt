@@ -3,7 +3,6 @@ use mathlib.Core.Path.{sym}
 use Prim.Native.Nat.{◌*◌}
 use native.Mathlib.Omega.{arith}
 use lib.Seq.{length-take-le}
-use borrow.Author.Rules.{rules}
 use Rattle.dxf.proofs.Outlines.{too_many, as_held}
 use Rattle.dxf.proofs.outline.finish.Goals as goal
 

@@ -1,5 +1,4 @@
 -- The refusals in their order, and then the copy.
-use borrow.Author.Rules.{rules}
 use Rattle.real.proofs.Pick.{passed, failed}
 use Rattle.dxf.proofs.Outlines.{out_of_range, no_room, handed}
 use Rattle.dxf.proofs.outline.hand_over.Goals as goal

@@ -1,6 +1,5 @@
 -- The number, and the last vertex's bulge written, or a refusal.
 use mathlib.Core.Path.{sym, ap, ◌∙◌}
-use borrow.Author.Rules.{rules}
 use native.Mathlib.Omega.{arith}
 use Rattle.numeral.specs.Decimal.{number_reply}
 use Rattle.dxf.proofs.States.{bulge_none, bulge_bad, bulge_good}

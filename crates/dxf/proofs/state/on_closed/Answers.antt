@@ -1,6 +1,5 @@
 -- Digits only, or the refusal.
 use mathlib.Core.Path.{sym, ap, ◌∙◌}
-use borrow.Author.Rules.{rules}
 use Rattle.numeral.specs.Digits.{whole_reply}
 use Rattle.dxf.proofs.States.{closed_bad, closed_good}
 use Rattle.dxf.proofs.state.on_closed.Goals as goal

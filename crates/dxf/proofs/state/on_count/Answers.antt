@@ -1,6 +1,5 @@
 -- Digits only, or the refusal.
 use mathlib.Core.Path.{sym, ap, ◌∙◌}
-use borrow.Author.Rules.{rules}
 use Rattle.numeral.specs.Digits.{whole_reply}
 use Rattle.dxf.proofs.States.{count_bad, count_good}
 use Rattle.dxf.proofs.state.on_count.Goals as goal

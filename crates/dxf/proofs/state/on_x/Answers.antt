@@ -1,6 +1,5 @@
 -- The number, or its refusal.
 use mathlib.Core.Path.{sym, ap, ◌∙◌}
-use borrow.Author.Rules.{rules}
 use Rattle.numeral.specs.Decimal.{number_reply}
 use Rattle.dxf.proofs.States.{x_bad, x_good}
 use Rattle.dxf.proofs.state.on_x.Goals as goal

@@ -1,6 +1,5 @@
 -- The number, and the vertex written, or its refusal.
 use mathlib.Core.Path.{sym, ap, ◌∙◌}
-use borrow.Author.Rules.{rules}
 use Rattle.numeral.specs.Decimal.{number_reply}
 use Rattle.dxf.proofs.States.{y_bad, y_good}
 use Rattle.dxf.proofs.state.on_y.Goals as goal

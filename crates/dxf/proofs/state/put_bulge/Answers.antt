@@ -2,7 +2,6 @@
 use Prim.Native.Nat.{◌*◌, ◌-◌}
 use native.Mathlib.Nat.{not-le_of_lt}
 use native.Mathlib.Omega.{arith}
-use borrow.Author.Rules.{rules}
 use lib.Seq.{take-set-lt}
 use Rattle.dxf.proofs.state.put_bulge.Goals as goal
 

@@ -1,7 +1,6 @@
 -- Three stores.
 use Prim.Native.Nat.{◌*◌}
 use native.Mathlib.Omega.{arith}
-use borrow.Author.Rules.{rules}
 use lib.ListN.{length-set}
 use Rattle.plane.specs.Grade.{double}
 use Rattle.dxf.proofs.States.{put_three}

@@ -1,6 +1,5 @@
 -- Where there is room.
 use native.Mathlib.Nat.{not-le_of_lt}
-use borrow.Author.Rules.{rules}
 use Rattle.dxf.proofs.state.put_vertex.Goals as goal
 
 pub returns-else-n-lt-MOST_VERTICES : goal.returns-else-n-lt-MOST_VERTICES

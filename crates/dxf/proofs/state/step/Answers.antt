@@ -1,5 +1,4 @@
 -- The code picks the step.
-use borrow.Author.Rules.{rules}
 use Rattle.dxf.proofs.States.{steps_refused, steps_as, steps_same, waiting, free, step_y, step_late, step_90, step_70, step_10, step_20, step_42, step_other}
 use Rattle.dxf.proofs.state.step.Goals as goal
 

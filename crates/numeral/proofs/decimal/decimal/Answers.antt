@@ -7,7 +7,6 @@ use native.Mathlib.Omega.{arith}
 use lib.Dec.{lit≤}
 use lib.ListN.{length}
 use lib.Ieee.{Float, binary64, round, neg}
-use borrow.Author.Rules.{rules}
 use Rattle.numeral.specs.Digits.{whole_reply}
 use Rattle.numeral.proofs.Round.{sign_round}
 use Rattle.numeral.proofs.Numbers.{front_read, front_bad, rest_read, rest_bad, both_read, power_small}

@@ -1,7 +1,6 @@
 -- The sign is taken off, and the rest read.
-use mathlib.Core.Path.{sym, ap, ◌∙◌}
+use mathlib.Core.Path.{ap, ◌∙◌}
 use mathlib.Core.Bool.{true, false}
-use borrow.Author.Rules.{rules}
 use Rattle.numeral.specs.Decimal.{unsigned_of}
 use Rattle.numeral.proofs.Text.{to_end}
 use Rattle.numeral.proofs.Numbers.{number_none, number_minus, number_plus, number_bare, right}

@@ -1,8 +1,5 @@
 -- After i turns the first i bytes have no point.
-use Prim.Native.Nat.{◌-◌}
-use native.Mathlib.Omega.{arith}
-use lib.ListN.{length}
-use Rattle.numeral.proofs.Numbers.{Unpointed, unpointed_start, unpointed_more, unpointed_at, unpointed_end}
+use Rattle.numeral.proofs.Numbers.{unpointed_start, unpointed_more, unpointed_at, unpointed_end}
 use Rattle.numeral.proofs.decimal.point.Goals as goal
 
 pub returns-then-text-i-eq46 : goal.returns-then-text-i-eq46

@@ -1,8 +1,7 @@
 -- After i turns the first i bytes have no point.
 use Prim.Native.Nat.{◌-◌}
-use native.Mathlib.Omega.{arith}
 use lib.ListN.{length}
-use Rattle.numeral.proofs.Numbers.{Unpointed, unpointed_start, unpointed_more, unpointed_at, unpointed_end}
+use Rattle.numeral.proofs.Numbers.{Unpointed}
 use Rattle.numeral.proofs.decimal.point.Given as goal
 
 abbrev pub invariant-loop-i : goal.invariant-loop-i

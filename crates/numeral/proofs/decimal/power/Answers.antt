@@ -1,9 +1,6 @@
 -- Each arm has its power; what no arm has is 15, which the check finds.
-use mathlib.Core.Path.{◌≡◌, refl, sym, ap, ◌∙◌}
-use Prim.Native.Nat.{ℕ, zero, suc, ◌^◌, ◌≤◌}
-use native.Mathlib.Nat.{le_antisymm}
-use native.Mathlib.Omega.{arith}
-use lib.Arith.{lt_of_le-ne}
+use mathlib.Core.Path.{◌≡◌, sym, ap, ◌∙◌}
+use Prim.Native.Nat.{ℕ, ◌^◌}
 use Rattle.numeral.proofs.decimal.power.Goals as goal
 
 power_at : {r k : ℕ} (n : ℕ) → k ≡ n → r ≡ 10 ^ n → r ≡ 10 ^ k

@@ -2,7 +2,6 @@
 use mathlib.Core.Path.{sym, ap}
 use mathlib.Core.Bool.{Bool, cond}
 use lib.Ieee.{neg}
-use borrow.Author.Rules.{rules}
 use Rattle.numeral.proofs.decimal.signed.Goals as goal
 
 pub returns-then-minus : goal.returns-then-minus

@@ -2,7 +2,6 @@
 use mathlib.Core.Path.{sym, ◌∙◌}
 use native.Mathlib.Omega.{arith}
 use lib.Seq.{length-take-le}
-use borrow.Author.Rules.{rules}
 use Rattle.numeral.proofs.Numbers.{too_few, too_many, enough}
 use Rattle.numeral.proofs.decimal.unsigned.Goals as goal
 

@@ -2,11 +2,9 @@
 use mathlib.Core.Path.{◌∙◌, ap}
 use Prim.Native.Nat.{ℕ, ◌-◌, ◌+◌, ◌*◌}
 use native.Mathlib.Omega.{arith}
-use lib.ListN.{length}
-use borrow.Author.Rules.{rules}
 use Rattle.real.proofs.Pick.{passed, failed}
 use Rattle.numeral.specs.Digits.{kept}
-use Rattle.numeral.proofs.Values.{Reading, digit_bounds, reading_start, reading_more, reading_stopped, reading_done}
+use Rattle.numeral.proofs.Values.{digit_bounds, reading_start, reading_more, reading_stopped, reading_done}
 use Rattle.numeral.proofs.digits.digits_on.Goals as goal
 
 pub returns-then-not-is_digit : goal.returns-then-not-is_digit

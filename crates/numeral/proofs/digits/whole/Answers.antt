@@ -1,8 +1,6 @@
 -- One digit at least, and digits only.
 use mathlib.Core.Path.{◌∙◌}
-use native.Mathlib.Omega.{arith}
 use lib.Dec.{lit<}
-use borrow.Author.Rules.{rules}
 use Rattle.numeral.proofs.Values.{whole_none, whole_some}
 use Rattle.numeral.proofs.digits.whole.Goals as goal
 

@@ -1,6 +1,5 @@
 -- Below the cap the number itself, and from there on its parity, which is the last digit's.
 use mathlib.Core.Path.{refl}
-use borrow.Author.Rules.{rules}
 use Rattle.numeral.proofs.Values.{written_small, written_large}
 use Rattle.numeral.proofs.digits.written_on.Goals as goal
 

@@ -1,5 +1,4 @@
 -- The two guards are the definition's tests, in its order.
-use borrow.Author.Rules.{rules}
 use borrow.Author.Tests.{eq-eqb, ne_eqb}
 use Rattle.plane.specs.From.{vertex_from}
 use Rattle.real.proofs.Pick.{bad, good}

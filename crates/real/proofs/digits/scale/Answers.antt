@@ -4,7 +4,6 @@ use native.Mathlib.Omega.{arith}
 use lib.Dec.{lit≤}
 use lib.Ieee.{binary64}
 use Rattle.real.proofs.Scale.{Lead, lead, scale_low, scale_mid}
-use borrow.Author.Rules.{rules}
 use Rattle.real.proofs.digits.scale.Goals as goal
 use Rattle.real.proofs.digits.scale.Goals.{Then-e-eq0}
 

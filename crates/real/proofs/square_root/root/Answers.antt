@@ -6,7 +6,6 @@ use lib.Ieee.{binary64, fits, to_bits}
 use Rattle.real.specs.Root.{root_of}
 use Rattle.real.proofs.Values.{zero_by_zero, below_infinity, no_nan}
 use Rattle.real.proofs.Patterns.{own_root, nan_root, root_zero, root_minus_zero, root_infinity, root_none, pattern_of_law, pattern_lt}
-use borrow.Author.Rules.{rules}
 use Rattle.real.proofs.square_root.root.Goals as goal
 use Rattle.real.proofs.square_root.root.Goals.{Start}
 

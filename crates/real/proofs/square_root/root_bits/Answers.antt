@@ -5,7 +5,6 @@ use native.Mathlib.Omega.{arith}
 use lib.Ieee.{binary64, prec, hid}
 use Rattle.real.proofs.Under.{in_range, under_of, root_le}
 use Rattle.real.proofs.Patterns.{root_pattern}
-use borrow.Author.Rules.{rules}
 use Rattle.real.proofs.square_root.root_bits.Goals as goal
 use Rattle.real.proofs.square_root.root_bits.Goals.{After-scale-x}
 

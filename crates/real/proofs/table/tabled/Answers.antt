@@ -2,7 +2,6 @@
 use mathlib.Core.Path.{◌∙◌}
 use Prim.Native.Nat.{◌+◌, ◌*◌, ◌^◌}
 use native.Mathlib.Omega.{arith}
-use borrow.Author.Rules.{rules}
 use Rattle.real.specs.Root.{isqrt}
 use Rattle.real.proofs.Listed.{listed_at}
 use Rattle.real.proofs.table.tabled.Goals as goal

@@ -2,7 +2,6 @@
 use Prim.Native.Nat.{◌+◌, ◌*◌, ◌/◌, ◌%◌}
 use native.Mathlib.Omega.{arith}
 use Rattle.real.proofs.Squares.{Split, split, Room, room, extend_up, extend_down, some}
-use borrow.Author.Rules.{rules}
 use Rattle.real.proofs.whole.extend.Goals as goal
 use Rattle.real.proofs.whole.extend.Goals.{Start}
 

@@ -5,7 +5,6 @@ use native.Mathlib.Omega.{arith}
 use Rattle.real.specs.Root.{isqrt}
 use Rattle.real.proofs.Floor.{Floor, isqrt_floor}
 use Rattle.real.proofs.Chord.{Chord, chord, one_more, as_it_is}
-use borrow.Author.Rules.{rules}
 use Rattle.real.proofs.whole.first.Goals as goal
 use Rattle.real.proofs.whole.first.Goals.{After-tabled-c}
 

@@ -5,7 +5,6 @@ use native.Mathlib.Omega.{arith}
 use lib.Dec.{lit≤, lit<}
 use Rattle.real.specs.Whole.{Root}
 use Rattle.real.proofs.Squares.{root_ge, root_lt, renamed, near_up, near_down}
-use borrow.Author.Rules.{rules}
 use Rattle.real.proofs.whole.near.Goals as goal
 use Rattle.real.proofs.whole.near.Goals.{After-extend-b}
 

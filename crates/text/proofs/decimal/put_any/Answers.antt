@@ -3,7 +3,6 @@ use mathlib.Core.Path.{refl}
 use native.Mathlib.Omega.{arith}
 use Rattle.text.proofs.Writing.{writes, named}
 use Rattle.text.proofs.Digits.{front}
-use borrow.Author.Rules.{rules}
 use Rattle.text.proofs.decimal.put_any.Goals as goal
 
 pub returns-then-n-lt100000000 : goal.returns-then-n-lt100000000

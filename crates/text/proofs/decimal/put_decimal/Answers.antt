@@ -1,6 +1,5 @@
 -- At once, where any number would fit, and else apart.
 use native.Mathlib.Omega.{arith}
-use borrow.Author.Rules.{rules}
 use Rattle.text.proofs.Writing.{roomy, allowed}
 use Rattle.text.proofs.decimal.put_decimal.Goals as goal
 

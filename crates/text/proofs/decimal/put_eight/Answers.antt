@@ -2,7 +2,6 @@
 use native.Mathlib.Omega.{arith}
 use Rattle.text.proofs.Writing.{writes, named}
 use Rattle.text.proofs.Digits.{halves}
-use borrow.Author.Rules.{rules}
 use Rattle.text.proofs.decimal.put_eight.Goals as goal
 
 pub returns : goal.returns

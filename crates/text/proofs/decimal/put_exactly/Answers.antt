@@ -2,7 +2,6 @@
 use mathlib.Core.Path.{sym}
 use native.Mathlib.Omega.{arith}
 use lib.Seq.{length-take-le}
-use borrow.Author.Rules.{rules}
 use Rattle.text.proofs.Writing.{filled, begins, put_named}
 use Rattle.text.proofs.decimal.put_exactly.Goals as goal
 

@@ -6,7 +6,6 @@ use native.Mathlib.Omega.{arith}
 use lib.ListN.{length-set}
 use Rattle.text.specs.Digits.{digit, digits}
 use Rattle.text.proofs.Writing.{two, named}
-use borrow.Author.Rules.{rules}
 use Rattle.text.proofs.decimal.put_two.Goals as goal
 
 pub returns : goal.returns

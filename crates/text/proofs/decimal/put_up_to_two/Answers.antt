@@ -1,6 +1,5 @@
 -- One digit or two.
 use native.Mathlib.Omega.{arith}
-use borrow.Author.Rules.{rules}
 use Rattle.text.proofs.Writing.{one, writes, named}
 use Rattle.text.proofs.Digits.{one_digit, two_digits}
 use Rattle.text.proofs.decimal.put_up_to_two.Goals as goal

@@ -1,6 +1,5 @@
 -- Three times each part is spread to two, until each holds a digit; then the codes are added to all at once (Spread).
 use native.Mathlib.Omega.{arith}
-use borrow.Author.Rules.{rules}
 use Rattle.text.proofs.Spread.{halves_are, halves_masked, bytes_are, bytes_masked, bytes_lt, digits_le, carries_le, glyphs_are}
 use Rattle.text.proofs.hex.glyphs.Goals as goal
 

@@ -1,6 +1,5 @@
 -- The space and the digits, where there is room for them.
 use native.Mathlib.Nat.{le_of_eq}
-use borrow.Author.Rules.{rules}
 use Rattle.text.proofs.Writing.{roomy, allowed, refused}
 use Rattle.text.proofs.Digits.{float_length}
 use Rattle.text.proofs.hex.put_float.Goals as goal

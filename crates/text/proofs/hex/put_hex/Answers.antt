@@ -1,6 +1,5 @@
 -- Eight digits, twice.
 use native.Mathlib.Omega.{arith}
-use borrow.Author.Rules.{rules}
 use Rattle.text.proofs.Writing.{next, named}
 use Rattle.text.proofs.Digits.{hex_halves}
 use Rattle.text.proofs.hex.put_hex.Goals as goal

@@ -2,7 +2,6 @@
 use mathlib.Core.Path.{refl}
 use native.Mathlib.Omega.{arith}
 use lib.ListN.{length-set}
-use borrow.Author.Rules.{rules}
 use Rattle.text.proofs.Writing.{eight, named}
 use Rattle.text.proofs.Spread.{hex_bytes}
 use Rattle.text.proofs.hex.put_hex8.Goals as goal

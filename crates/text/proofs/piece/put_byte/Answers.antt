@@ -1,6 +1,5 @@
 -- A store where the place is within the buffer.
 use native.Mathlib.Omega.{arith}
-use borrow.Author.Rules.{rules}
 use Rattle.text.proofs.Writing.{one, fitted, full}
 use Rattle.text.proofs.piece.put_byte.Goals as goal
 

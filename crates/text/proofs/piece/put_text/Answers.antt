@@ -1,7 +1,6 @@
 -- The copy, where there is room for it.
 use mathlib.Core.Path.{refl}
 use native.Mathlib.Nat.{le_refl}
-use borrow.Author.Rules.{rules}
 use Rattle.text.proofs.Writing.{roomy, allowed, refused}
 use Rattle.text.proofs.piece.put_text.Goals as goal
 

@@ -1,6 +1,5 @@
 -- The shared check's refusal, that of uneven bulges, or neither.
 use mathlib.Core.Path.{refl, sym, ◌∙◌}
-use borrow.Author.Rules.{rules}
 use Rattle.real.proofs.Pick.{bad, passed}
 use Rattle.plane.specs.Grade.{double}
 use Rattle.view.specs.Check.{even_of}

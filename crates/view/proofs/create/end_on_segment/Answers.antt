@@ -1,5 +1,4 @@
 -- The split's start, by the promise.
-use borrow.Author.Rules.{rules}
 use Rattle.view.specs.Create.{end_on_segment_of}
 use Rattle.view.proofs.create.end_on_segment.Goals as goal
 

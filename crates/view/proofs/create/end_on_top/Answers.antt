@@ -1,5 +1,4 @@
 -- The offset's test is the definition's; else the vertex before.
-use borrow.Author.Rules.{rules}
 use borrow.Author.Tests.{eq-eqb, ne_eqb}
 use Rattle.view.specs.Create.{end_on_top_of}
 use Rattle.view.proofs.create.end_on_top.Goals as goal

@@ -1,5 +1,4 @@
 -- The fuzzy test is the definition's, on the vertex by its promise.
-use borrow.Author.Rules.{rules}
 use Rattle.view.specs.Create.{ending_of}
 use Rattle.view.proofs.create.find_end.Goals as goal
 

@@ -1,7 +1,6 @@
 -- Three stores in a row are the numbers of the vertex.
 use native.Mathlib.Omega.{arith}
 use native.Mathlib.Numerals.{add-one, add-two}
-use borrow.Author.Rules.{rules}
 use lib.ListN.{length-set}
 use Rattle.view.proofs.list.put.Goals as goal
 

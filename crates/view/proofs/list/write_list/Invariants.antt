@@ -1,20 +1,15 @@
 -- The loop's invariant: the first k vertices stand in the buffer, and then what it held.
-use mathlib.Core.Path.{◌≡◌, refl, sym, ap, ◌∙◌}
+use mathlib.Core.Path.{◌≡◌}
 use mathlib.Core.List.{List, ◌++◌}
 use Prim.Native.Nat.{ℕ, ◌-◌, ◌*◌, ◌≤◌}
-use native.Mathlib.Omega.{arith}
-use native.Mathlib.Numerals.{add-one}
-use borrow.Author.Rules.{rules}
 use lib.ListN.{length, drop}
 use lib.Ieee.{Float, neg}
 use Rattle.plane.specs.Grade.{double}
 use Rattle.lists.specs.Plain.{Vert, tab, flat}
-use Rattle.lists.specs.View.{vertex_at_of, view_list}
+use Rattle.lists.specs.View.{vertex_at_of}
 use Rattle.view.specs.Outline.{count_of, src_of}
-use Rattle.view.specs.Record.{view_of, vertices}
-use Rattle.view.specs.Answers.{written}
+use Rattle.view.specs.Record.{view_of}
 use Rattle.view.specs.declared.view_data.PlineViewData.{PlineViewData}
-use Rattle.lists.proofs.Tab.{flat_put}
 use Rattle.view.proofs.list.write_list.Given as goal
 
 -- the view's vertices, and the buffer that held `out` after k of them

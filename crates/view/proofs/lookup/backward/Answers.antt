@@ -1,6 +1,5 @@
 -- Each return is the place of `Views` that the tests before it show.
 use native.Mathlib.Omega.{arith}
-use borrow.Author.Rules.{rules}
 use lib.Ieee.{neg}
 use Rattle.plane.specs.Grade.{double}
 use Rattle.view.specs.Outline.{src_of, count_of}

@@ -2,7 +2,6 @@
 use mathlib.Core.Path.{◌≡◌}
 use Prim.Native.Nat.{◌+◌}
 use native.Mathlib.Omega.{arith}
-use borrow.Author.Rules.{rules}
 use Rattle.plane.specs.Grade.{double}
 use Rattle.view.specs.Outline.{src_of, count_of}
 use Rattle.view.specs.Record.{view_of}

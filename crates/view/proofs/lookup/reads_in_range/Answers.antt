@@ -1,5 +1,4 @@
 -- Each return is the definition's case that the tests before it show.
-use borrow.Author.Rules.{rules}
 use borrow.Author.Tests.{eq-eqb, ne_eqb, lt-ltb, le-ltb, not-true, not-false}
 use Rattle.view.specs.Record.{reads_ok}
 use Rattle.view.proofs.lookup.reads_in_range.Goals as goal

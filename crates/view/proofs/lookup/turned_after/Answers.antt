@@ -1,5 +1,4 @@
 -- The two vertices by their promises.
-use borrow.Author.Rules.{rules}
 use Rattle.view.proofs.lookup.turned_after.Goals as goal
 
 pub returns : goal.returns

@@ -1,5 +1,4 @@
 -- The tests are the definition's, in its order.
-use borrow.Author.Rules.{rules}
 use borrow.Author.Tests.{eq-eqb, ne_eqb}
 use Rattle.real.proofs.Pick.{both, not_first}
 use Rattle.view.specs.Record.{turned_ok}

@@ -1,5 +1,4 @@
 -- The direction's own lookup.
-use borrow.Author.Rules.{rules}
 use Rattle.lists.specs.View.{vertex_at_of}
 use Rattle.view.proofs.lookup.vertex_of.Goals as goal
 

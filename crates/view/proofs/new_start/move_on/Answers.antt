@@ -1,6 +1,5 @@
 -- The fuzzy test is the definition's, on the next vertex by its promise.
 use mathlib.Core.Path.{refl}
-use borrow.Author.Rules.{rules}
 use Rattle.real.proofs.Pick.{yes, no}
 use Rattle.view.specs.Create.{moved_on}
 use Rattle.view.proofs.new_start.move_on.Goals as goal

@@ -1,5 +1,4 @@
 -- The fuzzy test is the definition's, on vertex k by its promise.
-use borrow.Author.Rules.{rules}
 use Rattle.view.specs.Create.{round_ending_of}
 use Rattle.view.proofs.new_start.round_ending.Goals as goal
 

@@ -1,5 +1,4 @@
 -- The split of segment k and the ending, by their promises.
-use borrow.Author.Rules.{rules}
 use Rattle.view.specs.Create.{round_from_of}
 use Rattle.view.proofs.new_start.round_from.Goals as goal
 

@@ -1,5 +1,4 @@
 -- The vertex at the wrapped number, by the two promises.
-use borrow.Author.Rules.{rules}
 use Rattle.view.proofs.outline.vertex_past.Goals as goal
 
 pub returns : goal.returns

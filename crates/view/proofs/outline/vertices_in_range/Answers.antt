@@ -1,7 +1,5 @@
 -- The loop's invariant: each vertex passed is in range.
 use mathlib.Core.Path.{◌≡◌, refl, sym, ap, ◌∙◌}
-use mathlib.Core.Bool.{true}
-use Prim.Native.Nat.{◌-◌, ◌≤◌}
 use native.Mathlib.Omega.{arith}
 use Rattle.real.proofs.Pick.{passed, failed}
 use Rattle.plane.specs.Grade.{double}

@@ -1,13 +1,10 @@
 -- The loop's invariant: each vertex passed is in range.
-use mathlib.Core.Path.{◌≡◌, refl, sym, ap, ◌∙◌}
+use mathlib.Core.Path.{◌≡◌}
 use mathlib.Core.Bool.{true}
 use Prim.Native.Nat.{◌-◌, ◌≤◌}
-use native.Mathlib.Omega.{arith}
-use Rattle.real.proofs.Pick.{passed, failed}
 use Rattle.plane.specs.Grade.{double}
 use Rattle.plane.specs.Range.{vertex_ok}
-use Rattle.view.specs.Outline.{count_of, vertex_value, all, numbers_ok}
-use Rattle.view.proofs.All.{all_more, all_not}
+use Rattle.view.specs.Outline.{vertex_value, all}
 use Rattle.view.proofs.outline.vertices_in_range.Given as goal
 
 abbrev pub invariant-loop-k : goal.invariant-loop-k

@@ -1,5 +1,4 @@
 -- The record is put together from the calls' answers, field by field.
-use borrow.Author.Rules.{rules}
 use Rattle.lists.specs.View.{part}
 use Rattle.view.proofs.part.part.Goals as goal
 

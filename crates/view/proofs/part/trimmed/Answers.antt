@@ -1,5 +1,4 @@
 -- The part that the direction asks for.
-use borrow.Author.Rules.{rules}
 use Rattle.lists.specs.View.{trim_view}
 use Rattle.view.proofs.part.trimmed.Goals as goal
 

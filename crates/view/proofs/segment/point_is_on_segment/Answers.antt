@@ -1,5 +1,4 @@
 -- Segment k's two vertices by their promises.
-use borrow.Author.Rules.{rules}
 use Rattle.view.specs.Segment.{on_outline_by}
 use Rattle.view.proofs.segment.point_is_on_segment.Goals as goal
 

@@ -1,5 +1,4 @@
 -- Segment k's two vertices by their promises.
-use borrow.Author.Rules.{rules}
 use Rattle.view.proofs.segment.split_segment.Goals as goal
 
 pub returns : goal.returns

@@ -1,6 +1,5 @@
 -- The start's test is the definition's; the end is judged on its segment and that segment's first vertex.
 use mathlib.Core.Path.{◌∙◌}
-use borrow.Author.Rules.{rules}
 use Rattle.plane.specs.Grade.{double}
 use Rattle.view.proofs.Roots.{few_tested, placed_off, placed_on, denied, granted}
 use Rattle.view.proofs.validate.judge.Goals as goal

@@ -1,5 +1,4 @@
 -- The verdict by its promise, and the sum of the two counts.
-use native.Mathlib.Omega.{arith}
 use Rattle.view.proofs.validate.judge_ended.Goals as goal
 
 pub returns : goal.returns

@@ -1,6 +1,5 @@
 -- The verdict's mark, or its refusal.
 use mathlib.Core.Path.{sym, ap, ◌∙◌}
-use borrow.Author.Rules.{rules}
 use Rattle.real.specs.Reply.{given}
 use Rattle.plane.specs.Grade.{double}
 use Rattle.view.specs.Validation.{mark_answer}

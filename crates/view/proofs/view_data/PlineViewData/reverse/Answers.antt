@@ -1,6 +1,5 @@
 -- The shared check's refusal, or the record with its direction flipped.
 use mathlib.Core.Path.{sym}
-use borrow.Author.Rules.{rules}
 use Rattle.plane.specs.Grade.{double}
 use Rattle.lists.specs.View.{turn_view}
 use Rattle.view.specs.Answers.{reverse_of}

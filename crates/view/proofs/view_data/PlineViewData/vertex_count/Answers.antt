@@ -1,7 +1,6 @@
 -- The shared check's refusal, or past it the count.
 use mathlib.Core.Path.{sym}
 use native.Mathlib.Omega.{arith}
-use borrow.Author.Rules.{rules}
 use Rattle.plane.specs.Grade.{double}
 use Rattle.view.specs.Answers.{vertex_count_of}
 use Rattle.view.proofs.Checks.{Checked, told_refused, told_passed, checked, checked_rest, checked_refused}

@@ -1,0 +1,2 @@
+-- The sheet of a drawing that is read.
+mod Made
