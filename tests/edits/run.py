@@ -20,8 +20,8 @@ lines, with a blank line before the next:
 One that changes a function and its definition alike leaves the function proved, and is refused by the law that no longer holds of it.
 
 The prover names the goals of a function by its code, as `returns-then-n-eq0` behind `if n == 0`, and a wrong answer that changes a
-condition changes these names. A proof that says nothing but that a name is gone is turned to the new ones and checked once more: it is
-then refused for what it says, or the wrong answer is none.
+condition changes these names. A proof of which nothing is said but that a name is gone is turned to the new ones and checked once more: it
+is then refused for what it says, or not at all.
 """
 import collections
 import concurrent.futures
@@ -55,7 +55,7 @@ NAME = re.compile(r"(?<![\w'-])\w[\w'-]*")
 FIELDS = re.compile(r"(?:the fields that can be named here are|names in it that begin alike:|did you mean|nearest:) ?(.*)")
 HELP = re.compile(r"^help: `Goals` has no `([^`]+)`; rattle asks for (.*)$")
 # a check takes up to so much memory, and with its names turned a proof is tried so often
-CHECK_KB, ROUNDS = 2_500_000, 4
+CHECK_KB, ROUNDS = 2_500_000, 6
 
 
 class Wrong(Exception):
@@ -204,7 +204,7 @@ def turn(place, said, part):
     return any(turns.values())
 
 
-def tried(edit, parts, top):
+def tried(edit, top):
     """Checks the crate with a file's wrong answers; answers what the prover said of them."""
     crate = edit.parent.parent.name
     place = top / "crates" / crate
@@ -219,8 +219,7 @@ def tried(edit, parts, top):
         if status != 1 or not any(line.startswith("logic=not-proved") for line in said):
             raise Wrong(f"{edit.relative_to(ROOT)}: its check ended with {status}, and not with a refusal:\n" + "\n".join(said[:12]))
         alone, _ = own(said, crate)
-        lacking = [it.part for it in parts if it.part in alone and not facts(said, it.part, alone)]
-        if not [it for it in lacking if turn(place, said, it)]:
+        if not [it for it in alone if not facts(said, it, alone) and turn(place, said, it)]:
             break
     return said
 
@@ -287,7 +286,7 @@ def run(edits, room, faults):
         try:
             parts = list(blocks(edit))
             lay(top, base, below(of(edit), known), known, linked)
-            return parts, tried(edit, parts, top)
+            return parts, tried(edit, top)
         except Wrong as fault:
             faults.append(str(fault))
         finally:
