@@ -1,21 +1,18 @@
 -- What reading a drawing leaves in the two buffers, by what it answers.
 use mathlib.Core.Path.{◌≡◌, refl, sym, ap, ap₂, subst, ◌∙◌}
-use mathlib.Core.Bool.{Bool, true, false, cond}
-use mathlib.Core.List.{List, [], ◌∷◌, ◌++◌}
-use Prim.Native.Nat.{ℕ, ◌*◌, ◌≤◌, ◌<◌}
-use native.Mathlib.Omega.{arith}
-use lib.ListN.{length, drop}
+use mathlib.Core.Bool.{cond}
+use mathlib.Core.List.{List, [], ◌∷◌}
+use Prim.Native.Nat.{ℕ, ◌≤◌, ◌<◌}
+use lib.ListN.{length}
 use lib.Dec.{leb}
 use lib.Ieee.{Float}
-use borrow.Author.Tests.{le-leb, lt-leb, leb-true}
+use borrow.Author.Tests.{le-leb, lt-leb}
 use Rattle.real.specs.Refusal.{lacks_room}
-use Rattle.real.specs.Reply.{Reply, refused, given, check, and_then}
+use Rattle.real.specs.Reply.{Reply, refused, given, and_then}
 use Rattle.real.proofs.Replies.{same_given, never_given, check_passed, check_failed}
-use Rattle.plane.specs.Range.{most_vertices}
-use Rattle.view.specs.Outline.{count_of}
 use Rattle.dxf.specs.Outline.{Drawn, room_for, handed_over}
 use Rattle.dxf.specs.declared.outline.DxfOutline.{DxfOutline}
-use Rattle.lent.specs.Lent.{code_of, held_by, lent, lent_both, in_front, itself, both, Answered, BothAnswered}
+use Rattle.lent.specs.Lent.{code_of, held_by, lent, lent_both, itself, both, Answered, BothAnswered}
 use Rattle.lent.specs.Values.{drawn_values, unplaced}
 
 -- ---- without a place for the words

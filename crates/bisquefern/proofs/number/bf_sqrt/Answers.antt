@@ -1,5 +1,4 @@
 -- The root is what `sqrt` promises, and its answer is written.
-use borrow.Author.Rules.{rules}
 use Rattle.real.specs.SqrtReply.{sqrt_reply}
 use Rattle.bisquefern.proofs.number.bf_sqrt.Goals as goal
 

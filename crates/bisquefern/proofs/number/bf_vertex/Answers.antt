@@ -1,5 +1,4 @@
 -- The reply is that of the call behind it.
-use borrow.Author.Rules.{rules}
 use Rattle.lent.proofs.Laws.{replies}
 use Rattle.bisquefern.proofs.number.bf_vertex.Goals as goal
 

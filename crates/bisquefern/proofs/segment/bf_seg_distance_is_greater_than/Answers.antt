@@ -1,5 +1,4 @@
 -- Past the reading of the segment, the reply is that of the call behind it.
-use borrow.Author.Rules.{rules}
 use Rattle.bisquefern.proofs.Read.{reads}
 use Rattle.bisquefern.proofs.segment.bf_seg_distance_is_greater_than.Goals as goal
 

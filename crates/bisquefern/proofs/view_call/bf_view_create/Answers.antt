@@ -1,6 +1,5 @@
 -- A vertex of another length is refused; else the reply is that of the call behind it.
 use mathlib.Core.Path.{◌∙◌}
-use borrow.Author.Rules.{rules}
 use borrow.Author.Tests.{ne_eqb, eq-eqb}
 use Rattle.bisquefern.specs.Calls.{of_vertex}
 use Rattle.lent.proofs.Laws.{refuses, replies}

@@ -1,5 +1,4 @@
 -- Past the reading of the record, the reply is that of the call behind it.
-use borrow.Author.Rules.{rules}
 use Rattle.bisquefern.proofs.Read.{reads}
 use Rattle.bisquefern.proofs.view_call.bf_view_get.Goals as goal
 

@@ -1,5 +1,4 @@
 -- Past the reading of the record, the list and its count are written.
-use borrow.Author.Rules.{rules}
 use Rattle.bisquefern.proofs.Read.{reads}
 use Rattle.bisquefern.proofs.view_call.bf_view_list.Goals as goal
 

@@ -1,6 +1,5 @@
 -- After k turns the box is that of the segments 0 to k.
 use mathlib.Core.Path.{◌≡◌, ap, ap₂, sym, ◌∙◌}
-use Prim.Native.Nat.{◌-◌, ◌≤◌}
 use native.Mathlib.Numerals.{add-one}
 use native.Mathlib.Omega.{arith}
 use Rattle.job.specs.Outline.{vertex_in_of}

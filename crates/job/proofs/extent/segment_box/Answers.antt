@@ -1,6 +1,5 @@
 -- The call gives the box, the default limit being in range, so that the arm of a refusal is never taken.
 use mathlib.Core.Path.{sym, ap, ◌∙◌}
-use borrow.Author.Rules.{rules}
 use Rattle.plane.specs.Grade.{double}
 use Rattle.plane.proofs.Limits.{limits}
 use Rattle.seg.specs.Bounds.{box_reply}

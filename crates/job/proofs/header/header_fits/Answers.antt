@@ -1,5 +1,4 @@
 -- Each test is the definition's; a count in range keeps the sums small.
-use borrow.Author.Rules.{rules}
 use Rattle.job.specs.Header.{header_under}
 use Rattle.job.proofs.Tests.{tests}
 use Rattle.job.proofs.header.header_fits.Goals as goal

@@ -1,7 +1,6 @@
 -- The fields are tested as the definition tests them.
 use mathlib.Core.Path.{ap, ◌∙◌}
 use lib.ListN.{length}
-use borrow.Author.Rules.{rules}
 use Rattle.job.specs.declared.header.Header.{Header}
 use Rattle.job.specs.Header.{header_fits_of, header_good}
 use Rattle.job.proofs.header.header_is_sound.Goals as goal

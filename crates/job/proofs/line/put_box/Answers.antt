@@ -1,5 +1,4 @@
 -- The pieces of the line, one after the other.
-use borrow.Author.Rules.{rules}
 use Rattle.text.proofs.Writing.{then, pieces, three}
 use Rattle.job.specs.Lines.{box_words}
 use Rattle.job.proofs.line.put_box.Goals as goal

@@ -1,7 +1,6 @@
 -- The flag picks the text.
 use mathlib.Core.Path.{sym, ap}
 use mathlib.Core.Bool.{Bool, cond}
-use borrow.Author.Rules.{rules}
 use Rattle.text.proofs.Writing.{put_named}
 use Rattle.job.proofs.line.put_either.Goals as goal
 

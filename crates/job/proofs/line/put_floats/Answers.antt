@@ -1,5 +1,4 @@
 -- One float after the other.
-use borrow.Author.Rules.{rules}
 use Rattle.text.proofs.Writing.{then}
 use Rattle.job.specs.Lines.{floats}
 use Rattle.job.proofs.line.put_floats.Goals as goal

@@ -1,5 +1,4 @@
 -- The head is a word, a number and a space.
-use borrow.Author.Rules.{rules}
 use Rattle.job.specs.Lines.{view_head}
 use Rattle.job.proofs.line.put_head.Goals as goal
 

@@ -1,6 +1,5 @@
 -- The mark picks the word.
 use mathlib.Core.Path.{sym, ap}
-use borrow.Author.Rules.{rules}
 use Rattle.view.specs.Validation.{mark_case}
 use Rattle.view.specs.declared.validation.Mark.{Mark}
 use Rattle.job.specs.Lines.{mark_word}

@@ -1,5 +1,4 @@
 -- The words, and then the line's end.
-use borrow.Author.Rules.{rules}
 use Rattle.text.proofs.Writing.{then}
 use Rattle.job.proofs.line.put_no_box.Goals as goal
 

@@ -1,5 +1,4 @@
 -- The pieces of the line, one after the other.
-use borrow.Author.Rules.{rules}
 use Rattle.text.proofs.Writing.{pieces, five}
 use Rattle.job.specs.Lines.{outline_line}
 use Rattle.job.proofs.line.put_outline.Goals as goal

@@ -1,5 +1,4 @@
 -- The line is a word, a number and the line's end.
-use borrow.Author.Rules.{rules}
 use Rattle.job.specs.Lines.{refused_line}
 use Rattle.job.proofs.line.put_refused.Goals as goal
 

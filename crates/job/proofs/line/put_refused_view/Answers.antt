@@ -1,5 +1,4 @@
 -- The view's head, and then the refusal.
-use borrow.Author.Rules.{rules}
 use Rattle.text.proofs.Writing.{then}
 use Rattle.job.proofs.line.put_refused_view.Goals as goal
 

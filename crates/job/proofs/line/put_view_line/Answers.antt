@@ -1,5 +1,4 @@
 -- The pieces of the line, one after the other.
-use borrow.Author.Rules.{rules}
 use Rattle.text.proofs.Writing.{pieces, five}
 use Rattle.job.specs.Lines.{number_field, view_line}
 use Rattle.job.proofs.line.put_view_line.Goals as goal

@@ -1,5 +1,4 @@
 -- The word, the number and the byte, one after the other.
-use borrow.Author.Rules.{rules}
 use Rattle.text.proofs.Writing.{pieces, three}
 use Rattle.job.proofs.line.put_worded.Goals as goal
 

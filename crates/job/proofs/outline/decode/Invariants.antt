@@ -1,16 +1,9 @@
 -- After i turns the first i numbers stand in the buffer.
-use mathlib.Core.Path.{◌≡◌, refl, sym, ap, ◌∙◌}
-use mathlib.Core.List.{List, ◌++◌}
-use Prim.Native.Nat.{ℕ, ◌+◌, ◌*◌, ◌-◌, ◌≤◌, ◌<◌}
-use native.Mathlib.Omega.{arith}
-use native.Mathlib.Numerals.{add-one}
-use lib.ListN.{length, drop, set, length-set}
-use lib.Ieee.{Float}
-use Rattle.lists.specs.Plain.{tab}
-use Rattle.record.specs.Bytes.{float_at}
-use Rattle.job.specs.Header.{header_size}
+use mathlib.Core.Path.{◌≡◌}
+use mathlib.Core.List.{◌++◌}
+use Prim.Native.Nat.{◌-◌, ◌≤◌}
+use lib.ListN.{length, drop}
 use Rattle.job.specs.Outline.{numbers_in}
-use Rattle.job.proofs.Fill.{fill_next}
 use Rattle.job.proofs.outline.decode.Given as goal
 
 abbrev pub invariant-loop-i : goal.invariant-loop-i

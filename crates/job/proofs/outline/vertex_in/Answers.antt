@@ -1,5 +1,4 @@
 -- Three floats by their promises.
-use borrow.Author.Rules.{rules}
 use Rattle.job.proofs.outline.vertex_in.Goals as goal
 
 pub returns : goal.returns

@@ -1,7 +1,5 @@
 -- After k turns the first k vertices are in range.
 use mathlib.Core.Path.{◌≡◌, refl, sym, ap, ◌∙◌}
-use mathlib.Core.Bool.{true}
-use Prim.Native.Nat.{◌-◌, ◌≤◌}
 use native.Mathlib.Omega.{arith}
 use Rattle.real.proofs.Pick.{passed, failed}
 use Rattle.plane.specs.Grade.{double}

@@ -1,13 +1,10 @@
 -- After k turns the first k vertices are in range.
-use mathlib.Core.Path.{◌≡◌, refl, sym, ap, ◌∙◌}
+use mathlib.Core.Path.{◌≡◌}
 use mathlib.Core.Bool.{true}
 use Prim.Native.Nat.{◌-◌, ◌≤◌}
-use native.Mathlib.Omega.{arith}
-use Rattle.real.proofs.Pick.{passed, failed}
 use Rattle.plane.specs.Grade.{double}
 use Rattle.plane.specs.Range.{vertex_ok}
 use Rattle.view.specs.Outline.{all}
-use Rattle.view.proofs.All.{all_more, all_not}
 use Rattle.job.specs.Outline.{vertex_in_of}
 use Rattle.job.proofs.outline.vertices_are_sound.Given as goal
 

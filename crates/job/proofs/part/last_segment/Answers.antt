@@ -1,6 +1,5 @@
 -- The flag picks the segment.
 use native.Mathlib.Omega.{arith}
-use borrow.Author.Rules.{rules}
 use Rattle.job.proofs.part.last_segment.Goals as goal
 
 pub returns-then-closed : goal.returns-then-closed

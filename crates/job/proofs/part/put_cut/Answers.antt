@@ -4,7 +4,6 @@ use mathlib.Core.List.{List, ◌++◌}
 use Prim.Native.Nat.{ℕ}
 use native.Mathlib.Omega.{arith}
 use lib.Ieee.{Float}
-use borrow.Author.Rules.{rules}
 use Rattle.view.specs.Record.{vertices}
 use Rattle.view.specs.Validation.{cut}
 use Rattle.text.proofs.Writing.{then}

@@ -3,7 +3,6 @@ use mathlib.Core.Path.{ap, ap₂, ◌∙◌}
 use mathlib.Core.Bool.{Bool}
 use mathlib.Core.List.{◌++◌}
 use native.Mathlib.Omega.{arith}
-use borrow.Author.Rules.{rules}
 use Rattle.real.proofs.Pick.{passed, failed}
 use Rattle.seg.specs.declared.bounds.Bounds.{Bounds}
 use Rattle.job.specs.Outline.{vertex_in_of}

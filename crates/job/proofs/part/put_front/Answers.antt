@@ -1,7 +1,6 @@
 -- The number of the part picks the line.
 use mathlib.Core.Path.{ap, ◌∙◌}
 use native.Mathlib.Omega.{arith}
-use borrow.Author.Rules.{rules}
 use borrow.Author.Tests.{eq-eqb, ne_eqb}
 use Rattle.job.specs.declared.header.Header.{Header}
 use Rattle.job.specs.Header.{closed}

@@ -1,7 +1,6 @@
 -- The mark picks the case; a cut view lists.
 use mathlib.Core.Path.{sym, ap, subst, ◌∙◌}
 use native.Mathlib.Omega.{arith}
-use borrow.Author.Rules.{rules}
 use Rattle.view.specs.Validation.{cut, hold, mark_case, verdict_of}
 use Rattle.job.specs.Views.{mark_text, mark_buffer, Lists}
 use Rattle.job.proofs.Lengths.{view_length}

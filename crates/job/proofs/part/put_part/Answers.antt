@@ -2,7 +2,6 @@
 use mathlib.Core.Path.{◌≡◌, ap, ◌∙◌}
 use Prim.Native.Nat.{◌+◌, ◌<◌}
 use native.Mathlib.Omega.{arith}
-use borrow.Author.Rules.{rules}
 use Rattle.job.specs.declared.header.Header.{Header}
 use Rattle.job.specs.Sheet.{views}
 use Rattle.job.proofs.Parting.{named_part, empty_part, past_part, front_part_law, view_part_law}

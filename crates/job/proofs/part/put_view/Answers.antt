@@ -1,6 +1,5 @@
 -- A refusal is printed, and a verdict by its promise.
 use native.Mathlib.Omega.{arith}
-use borrow.Author.Rules.{rules}
 use Rattle.plane.specs.Grade.{double}
 use Rattle.view.proofs.Roots.{verdict_told}
 use Rattle.job.proofs.Lengths.{refused_view_length}

@@ -1,7 +1,6 @@
 -- The record stands in the sheet where the header says.
 use mathlib.Core.Path.{ap, ap₂, ◌∙◌}
 use mathlib.Core.Bool.{Bool}
-use borrow.Author.Rules.{rules}
 use Rattle.view.specs.declared.view_data.PlineViewData.{PlineViewData}
 use Rattle.record.specs.Record.{record_value}
 use Rattle.job.specs.Header.{closed}

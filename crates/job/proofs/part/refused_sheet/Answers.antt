@@ -1,6 +1,5 @@
 -- The line stands at the buffer's start.
 use native.Mathlib.Omega.{arith}
-use borrow.Author.Rules.{rules}
 use Rattle.job.proofs.Lengths.{refused_length}
 use Rattle.job.proofs.Parting.{part_filled}
 use Rattle.job.proofs.part.refused_sheet.Goals as goal

@@ -3,7 +3,6 @@ use mathlib.Core.Path.{subst}
 use mathlib.Core.List.{List}
 use Prim.Native.Nat.{ℕ}
 use native.Mathlib.Omega.{arith}
-use borrow.Author.Rules.{rules}
 use Rattle.real.proofs.Pick.{passed, failed}
 use Rattle.text.specs.Wrote.{Filled}
 use Rattle.job.proofs.Heads.{headed}

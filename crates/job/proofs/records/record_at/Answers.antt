@@ -3,7 +3,6 @@ use mathlib.Core.Path.{◌≡◌, ap, ap₂}
 use Prim.Native.Nat.{ℕ, ◌+◌, ◌*◌, ◌-◌}
 use native.Mathlib.Omega.{arith}
 use lib.ListN.{take, drop}
-use borrow.Author.Rules.{rules}
 use Rattle.record.specs.Layout.{record_size}
 use Rattle.job.specs.declared.header.Header.{Header}
 use Rattle.job.specs.Header.{header_size, vertex_size}

@@ -1,9 +1,6 @@
 -- After k turns the first k records are sound.
 use mathlib.Core.Path.{◌≡◌, refl, sym, ap, ◌∙◌}
-use mathlib.Core.Bool.{true}
-use Prim.Native.Nat.{◌-◌, ◌≤◌}
 use native.Mathlib.Omega.{arith}
-use borrow.Author.Rules.{rules}
 use Rattle.real.proofs.Pick.{passed, failed}
 use Rattle.view.specs.Outline.{all}
 use Rattle.view.proofs.All.{all_more, all_not}

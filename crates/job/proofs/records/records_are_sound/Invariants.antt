@@ -1,15 +1,10 @@
 -- After k turns the first k records are sound.
-use mathlib.Core.Path.{◌≡◌, refl, sym, ap, ◌∙◌}
+use mathlib.Core.Path.{◌≡◌}
 use mathlib.Core.Bool.{true}
 use Prim.Native.Nat.{◌-◌, ◌≤◌}
-use native.Mathlib.Omega.{arith}
-use borrow.Author.Rules.{rules}
-use Rattle.real.proofs.Pick.{passed, failed}
 use Rattle.view.specs.Outline.{all}
-use Rattle.view.proofs.All.{all_more, all_not}
 use Rattle.record.specs.Record.{fields_ok}
-use Rattle.job.specs.declared.header.Header.{Header}
-use Rattle.job.specs.Sheet.{views, record_at_of}
+use Rattle.job.specs.Sheet.{record_at_of}
 use Rattle.job.proofs.records.records_are_sound.Given as goal
 
 abbrev pub invariant-loop-k : goal.invariant-loop-k

@@ -1,5 +1,4 @@
 -- The pieces of the row, one after the other.
-use borrow.Author.Rules.{rules}
 use Rattle.text.proofs.Writing.{pieces, five}
 use Rattle.job.specs.Rows.{row}
 use Rattle.job.proofs.row.put_row.Goals as goal

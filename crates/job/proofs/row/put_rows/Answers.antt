@@ -1,10 +1,7 @@
 -- After k turns the rows of the first k vertices stand in the buffer.
 use mathlib.Core.Path.{◌≡◌, refl, sym, ap, ◌∙◌}
-use Prim.Native.Nat.{◌-◌, ◌≤◌}
 use native.Mathlib.Omega.{arith}
 use native.Mathlib.Numerals.{add-one}
-use lib.ListN.{length}
-use Rattle.text.specs.Wrote.{Piece}
 use Rattle.job.specs.Rows.{joined, rows}
 use Rattle.text.proofs.Writing.{then, named_piece, no_piece}
 use Rattle.job.proofs.row.put_rows.Goals as goal

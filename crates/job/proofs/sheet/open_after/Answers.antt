@@ -3,7 +3,6 @@ use mathlib.Core.Path.{ap, ◌∙◌}
 use mathlib.Core.List.{◌++◌}
 use Prim.Native.Nat.{◌+◌, ◌*◌}
 use lib.ListN.{drop}
-use borrow.Author.Rules.{rules}
 use Rattle.real.specs.Reply.{given}
 use Rattle.real.proofs.Pick.{passed, failed}
 use Rattle.view.specs.Answers.{buffer_after}

@@ -2,7 +2,6 @@
 use mathlib.Core.Path.{sym, ap, ◌∙◌}
 use mathlib.Core.List.{[], ◌∷◌}
 use Prim.Native.Nat.{ℕ}
-use borrow.Author.Rules.{rules}
 use Rattle.dxf.specs.Outline.{outline_of, dxf_reply, outline_to, outline_buffer}
 use Rattle.lent.specs.Lent.{itself}
 use Rattle.lent.proofs.Laws.{stored_as}

@@ -1,6 +1,5 @@
 -- Whatever a buffer has room for, the drawing's own refusals come first.
 use mathlib.Core.Path.{sym, ap, ◌∙◌}
-use borrow.Author.Rules.{rules}
 use Rattle.dxf.specs.Outline.{outline_of, dxf_reply, outline_to}
 use Rattle.lent.proofs.Drawings.{own_given, own_refused}
 use Rattle.lent.proofs.drawing.refuse_drawing.Goals as goal

@@ -1,6 +1,5 @@
 -- The flag's byte is written, or the refusal is handed on.
 use mathlib.Core.Path.{sym, ap}
-use borrow.Author.Rules.{rules}
 use Rattle.seg.specs.Reply.{bool_reply}
 use Rattle.lent.specs.Lent.{one}
 use Rattle.lent.specs.Values.{flag_byte}

@@ -1,6 +1,5 @@
 -- The mark's byte is written, or the refusal is handed on.
 use mathlib.Core.Path.{sym, ap}
-use borrow.Author.Rules.{rules}
 use Rattle.view.specs.Validation.{mark_reply, mark_case}
 use Rattle.view.specs.declared.validation.Mark.{Mark}
 use Rattle.lent.specs.Lent.{one}

@@ -1,6 +1,5 @@
 -- The record's bytes are written, or a refusal is handed on.
 use mathlib.Core.Path.{sym, ap, ◌∙◌}
-use borrow.Author.Rules.{rules}
 use Rattle.view.specs.Answers.{view_reply}
 use Rattle.record.specs.Record.{bytes_reply}
 use Rattle.lent.proofs.Laws.{hands_on, replies}

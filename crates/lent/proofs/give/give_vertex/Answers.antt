@@ -1,5 +1,4 @@
 -- The values are written, or the refusal is handed on.
-use borrow.Author.Rules.{rules}
 use Rattle.plane.specs.From.{vertex_reply}
 use Rattle.real.specs.Reply.{and_then}
 use Rattle.lent.specs.Values.{vertex_numbers}

@@ -1,5 +1,4 @@
 -- With no place for the count nothing is written; else the list is, and then the count.
-use borrow.Author.Rules.{rules}
 use Rattle.lent.proofs.Listed.{listed_both, no_count}
 use Rattle.lent.proofs.list.give_list.Goals as goal
 

@@ -1,5 +1,4 @@
 -- Another length is refused; else the numbers are those of the slice.
-use borrow.Author.Rules.{rules}
 use borrow.Author.Tests.{ne_eqb, eq-eqb}
 use Rattle.lent.specs.Segment.{segment_from}
 use Rattle.lent.proofs.segment.segment_from_slice.Goals as goal

@@ -1,6 +1,5 @@
 -- The verdict is written, or the refusal is handed on.
 use mathlib.Core.Path.{sym, ap}
-use borrow.Author.Rules.{rules}
 use Rattle.view.specs.Validation.{validation_reply}
 use Rattle.lent.proofs.Laws.{hands_on, replies}
 use Rattle.lent.proofs.verdict.give_verdict.Goals as goal

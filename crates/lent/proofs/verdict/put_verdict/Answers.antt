@@ -1,5 +1,4 @@
 -- Either buffer may be short; else both hold their values.
-use borrow.Author.Rules.{rules}
 use Rattle.lent.specs.Lent.{itself}
 use Rattle.lent.specs.Values.{verdict_values}
 use Rattle.lent.proofs.Laws.{stored_as, first_short, second_short, both_stored}

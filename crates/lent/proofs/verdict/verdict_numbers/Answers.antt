@@ -1,5 +1,4 @@
 -- Each case has the definition's values.
-use borrow.Author.Rules.{rules}
 use Rattle.view.specs.Validation.{verdict_of}
 use Rattle.view.specs.declared.validation.ViewDataValidation.{ViewDataValidation}
 use Rattle.lent.specs.Values.{verdict_numbers_of}

@@ -2,7 +2,6 @@
 use mathlib.Core.Path.{◌≡◌}
 use mathlib.Core.List.{List}
 use Prim.Native.Nat.{ℕ}
-use borrow.Author.Rules.{rules}
 use Rattle.real.specs.Tally.{tally}
 use Rattle.view.specs.Validation.{verdict_of}
 use Rattle.view.specs.declared.validation.ViewDataValidation.{ViewDataValidation}

@@ -1,12 +1,7 @@
 -- The loop's invariant: the first k values stand in the buffer, and then what it held.
 use Prim.Native.Nat.{◌-◌}
-use native.Mathlib.Omega.{arith}
-use borrow.Author.Rules.{rules}
 use lib.ListN.{length}
-use lib.Ieee.{nan}
-use Rattle.lent.specs.Lent.{itself}
-use Rattle.lists.proofs.Copying.{Copying, copy_none, copy_more, copy_all}
-use Rattle.lent.proofs.Laws.{short, stores}
+use Rattle.lists.proofs.Copying.{Copying}
 use Rattle.lent.proofs.write.write.Given as goal
 
 abbrev pub invariant-loop-k : goal.invariant-loop-k

@@ -1,6 +1,5 @@
 -- A short buffer is refused; else the byte stands in front.
 use mathlib.Core.List.{[], ◌∷◌}
-use borrow.Author.Rules.{rules}
 use lib.Seq.{sets-eq}
 use Rattle.lent.specs.Lent.{one}
 use Rattle.lent.proofs.Laws.{short, stores}

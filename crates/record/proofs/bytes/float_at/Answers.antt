@@ -1,7 +1,6 @@
 -- The pattern of the eight bytes, as a float.
 use mathlib.Core.Path.{ap, ◌∙◌}
 use lib.Ieee.{of_bits, binary64}
-use borrow.Author.Rules.{rules}
 use Rattle.record.specs.Bytes.{float_at}
 use Rattle.record.proofs.bytes.float_at.Goals as goal
 

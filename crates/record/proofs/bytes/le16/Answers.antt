@@ -1,7 +1,6 @@
 -- Past the end it is 0; else two bytes, each below 256.
 use mathlib.Core.Path.{sym}
 use native.Mathlib.Omega.{arith}
-use borrow.Author.Rules.{rules}
 use Rattle.record.specs.Bytes.{le16}
 use Rattle.record.proofs.Past.{none16}
 use Rattle.record.proofs.bytes.le16.Goals as goal

@@ -1,7 +1,6 @@
 -- Past the end it is 0; else two halves, each below 65,536.
 use mathlib.Core.Path.{sym}
 use native.Mathlib.Omega.{arith}
-use borrow.Author.Rules.{rules}
 use Rattle.record.specs.Bytes.{le32}
 use Rattle.record.proofs.Past.{none32}
 use Rattle.record.proofs.bytes.le32.Goals as goal

@@ -1,7 +1,6 @@
 -- Past the end it is 0; else two halves, each below 2^32.
 use mathlib.Core.Path.{sym}
 use native.Mathlib.Omega.{arith}
-use borrow.Author.Rules.{rules}
 use Rattle.record.specs.Bytes.{le64}
 use Rattle.record.proofs.Past.{none64}
 use Rattle.record.proofs.bytes.le64.Goals as goal

@@ -2,7 +2,6 @@
 use mathlib.Core.Path.{refl}
 use native.Mathlib.Omega.{arith}
 use lib.ListN.{length-set}
-use borrow.Author.Rules.{rules}
 use Rattle.record.specs.Bytes.{bytes4}
 use Rattle.text.proofs.Writing.{four}
 use Rattle.record.proofs.bytes.put32.Goals as goal

@@ -1,6 +1,5 @@
 -- The eight bytes, where there is room for them.
 use native.Mathlib.Nat.{le_of_eq}
-use borrow.Author.Rules.{rules}
 use Rattle.text.proofs.Writing.{roomy, allowed, refused}
 use Rattle.record.proofs.Records.{float_length}
 use Rattle.record.proofs.bytes.put_number.Goals as goal

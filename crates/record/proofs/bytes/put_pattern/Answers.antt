@@ -1,7 +1,6 @@
 -- The pattern in two halves, the lower one first.
 use mathlib.Core.Path.{ap}
 use native.Mathlib.Omega.{arith}
-use borrow.Author.Rules.{rules}
 use Rattle.record.specs.Bytes.{bytes8, float_bytes}
 use Rattle.text.proofs.Writing.{named, writes}
 use Rattle.record.proofs.bytes.put_pattern.Goals as goal

@@ -3,7 +3,6 @@ use mathlib.Core.Path.{ap}
 use mathlib.Core.List.{◌++◌}
 use Prim.Native.Nat.{ℕ}
 use native.Mathlib.Omega.{arith}
-use borrow.Author.Rules.{rules}
 use Rattle.record.specs.Bytes.{bytes4}
 use Rattle.record.specs.Record.{end_bytes}
 use Rattle.text.proofs.Writing.{writes, named}

@@ -1,6 +1,5 @@
 -- Two numbers, one after the other.
 use native.Mathlib.Omega.{arith}
-use borrow.Author.Rules.{rules}
 use Rattle.record.specs.Record.{place_bytes}
 use Rattle.text.proofs.Writing.{writes}
 use Rattle.record.proofs.record.put_place.Goals as goal

@@ -1,6 +1,5 @@
 -- Two patterns, one after the other.
 use native.Mathlib.Omega.{arith}
-use borrow.Author.Rules.{rules}
 use Rattle.record.specs.Record.{point_bytes}
 use Rattle.text.proofs.Writing.{writes}
 use Rattle.record.proofs.record.put_point.Goals as goal

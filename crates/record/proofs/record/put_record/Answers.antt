@@ -1,6 +1,5 @@
 -- The pieces of the record, one after the other.
 use native.Mathlib.Omega.{arith}
-use borrow.Author.Rules.{rules}
 use Rattle.record.specs.Record.{record_bytes}
 use Rattle.text.proofs.Writing.{wrotes, five}
 use Rattle.record.proofs.record.put_record.Goals as goal

@@ -1,6 +1,5 @@
 -- Three patterns, one after the other.
 use native.Mathlib.Omega.{arith}
-use borrow.Author.Rules.{rules}
 use Rattle.record.specs.Record.{vertex_bytes}
 use Rattle.text.proofs.Writing.{writes}
 use Rattle.record.proofs.record.put_vertex.Goals as goal

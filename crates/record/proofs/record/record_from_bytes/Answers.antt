@@ -1,7 +1,6 @@
 -- The length is tested, then the form; each refusal is the definition's.
 use mathlib.Core.Path.{ap}
 use borrow.Author.Tests.{eq-eqb, ne_eqb}
-use borrow.Author.Rules.{rules}
 use Rattle.real.specs.Reply.{given}
 use Rattle.real.proofs.Pick.{passed, failed}
 use Rattle.record.specs.Record.{record_from}

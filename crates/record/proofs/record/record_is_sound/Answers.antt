@@ -1,6 +1,5 @@
 -- The test is the definition's.
 use mathlib.Core.Path.{sym}
-use borrow.Author.Rules.{rules}
 use Rattle.record.specs.Record.{fields_ok}
 use Rattle.record.proofs.record.record_is_sound.Goals as goal
 

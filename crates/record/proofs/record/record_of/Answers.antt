@@ -1,5 +1,4 @@
 -- Each field by its promise.
-use borrow.Author.Rules.{rules}
 use Rattle.record.proofs.record.record_of.Goals as goal
 
 pub returns : goal.returns

@@ -5,7 +5,6 @@ use Prim.Native.Nat.{ℕ}
 use native.Mathlib.Omega.{arith}
 use lib.ListN.{drop}
 use borrow.Author.Tests.{lt-ltb, le-ltb, lt-leb, le-leb}
-use borrow.Author.Rules.{rules}
 use Rattle.real.specs.Reply.{given}
 use Rattle.record.specs.Record.{record_bytes, record_to, buffer_by, record_buffer}
 use Rattle.text.proofs.Writing.{filled}

@@ -1,5 +1,5 @@
 -- What opening a sheet answers picks the text: a refusal is all of it, and the parts, joined, are.
-use Rattle.std.proofs.Common.{◌≡◌, ◌≤◌, sym, ap, ◌∙◌, List, length, replicate, take, rules, arith}
+use Rattle.std.proofs.Common.{sym, ap, ◌∙◌, List, length, replicate, take, arith}
 use Rattle.std.specs.Prelude.{Float}
 use Rattle.std.specs.Float.{binary64}
 use Rattle.std.specs.Float.Ieee.{of_bits}
