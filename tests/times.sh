@@ -1,7 +1,8 @@
 #!/bin/sh
 # Where the last run of tests/edits/run.py, and so of ./test, spent its time on wrong answers: for each crate the seconds of its check as it
-# stands, over what was kept; its files of wrong answers, how many these have, and the seconds of their checks. The seconds are those that
-# passed, with several checks at a time, so their sum is more than the run took. rt ci says no times.
+# stands, over what was kept; its files of wrong answers, how many these have, and the seconds of their checks, of which a file has more than
+# one where names were turned. The seconds are those that passed, with several checks at a time, so their sum is more than the run took. rt
+# ci says no times.
 root=$(cd "$(dirname "$0")/.." && pwd)
 log=$root/${1:-target/edits/times}
 [ -f "$log" ] || { echo "times: $log is missing: run ./test first" >&2; exit 1; }
@@ -11,7 +12,7 @@ log=$root/${1:-target/edits/times}
 } | awk '
     /^answers / { answers[$2] += $3 }
     /^check / { check[$2] = $3; order[++k] = $2 }
-    /^edit / { split($2, part, "/"); files[part[1]]++; cost[part[1]] += $3 }
+    /^edit / { split($2, part, "/"); if (!seen[$2]++) files[part[1]]++; cost[part[1]] += $3 }
     END {
         printf "%-12s %7s %7s %7s %9s\n", "crate", "check s", "answers", "files", "files s"
         for (i = 1; i <= k; i++) {
