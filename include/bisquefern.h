@@ -1,4 +1,4 @@
-/* Lines and arcs, and views of outlines made of them.
+/* Lines and arcs, views of outlines made of them, and the outline of a drawing.
  *
  * Every function returns 0 where it answers, else one of the refusals below, and then has written nothing. The refusals
  * of each function stand beside it in the order in which they are judged; of several the first is returned.
@@ -20,9 +20,9 @@
  * - an answer buffer overlaps no other slice of the call, and nothing else writes to any of them during the call;
  * - numbers round to nearest, ties to even, and subnormal ones are kept, not taken for 0 or flushed to 0. A C program
  *   starts so; -ffast-math and its like may change it;
- * - BF_STACK_BYTES of stack are free.
- * The library keeps nothing between calls, asks for no memory and calls nothing, so calls may run on many threads at
- * once. */
+ * - BF_STACK_BYTES of stack are free, for bf_dxf_outline BF_DXF_STACK_BYTES.
+ * The library keeps nothing between calls, asks for no memory and calls nothing but memcpy and memset, so calls may run on
+ * many threads at once. */
 #ifndef BISQUEFERN_H
 #define BISQUEFERN_H
 
@@ -45,7 +45,8 @@ enum bf_refusal {
     BF_BAD_TRIM = 9,       /* a trim without 0 <= i < j <= offset + 1 */
     BF_NOT_CLOSED = 10,    /* a new start on an open outline */
     BF_BAD_SHEET = 11,     /* a record that is not 64 bytes */
-    BF_BAD_RECORD = 12     /* a record's direction is not 0 or 1 */
+    BF_BAD_RECORD = 12,    /* a record's direction is not 0 or 1 */
+    BF_BAD_TEXT = 13       /* a drawing's text is not of the accepted form */
 };
 
 /* What bf_view_validate says of a view. The numbers that it gives beside the verdict stand there. */
@@ -62,8 +63,8 @@ enum bf_verdict {
 /* The line limit where the job names none. */
 #define BF_LINE_LIMIT 1e-8
 
-/* Bytes of stack that are enough for any call. */
-enum { BF_STACK_BYTES = 4096 };
+/* Bytes of stack that are enough for any call but bf_dxf_outline, and for that one, which has room for the longest outline. */
+enum { BF_STACK_BYTES = 4096, BF_DXF_STACK_BYTES = 65536 };
 
 /* A view of an outline. Its cut number changes nothing that a call answers of it but the number itself. */
 typedef struct bf_record {
@@ -161,6 +162,13 @@ uint8_t bf_view_reverse(const double *outline, size_t outline_len, const void *r
 /* The record of positions i to j of the view: 64 bytes, with its cut number. 11, 12, 3, 1, 5, 4, 7, 9, 8. */
 uint8_t bf_view_trim(const double *outline, size_t outline_len, const void *record, size_t record_len, uint64_t i,
                      uint64_t j, void *out, size_t out_len);
+
+/* The outline of a drawing in DXF: three numbers a vertex, and to `whole` 2 words, how many vertices, and 1 for closed or 0.
+ * `text` is the file's. Its first LWPOLYLINE counts; nothing after that is read. The lines go in pairs, a code of 1 to 4
+ * digits and its value: 90 is the vertex count, which must be there and right, 70 is odd for closed, 10 and 20 are a vertex's
+ * x and y, one after the other, 42 is its bulge, and other codes are passed over. Any other form is refused 13. 13, 3, 1, 8. */
+uint8_t bf_dxf_outline(const uint8_t *text, size_t text_len, double *out, size_t out_len, uint64_t *whole,
+                       size_t whole_len);
 
 #ifdef __cplusplus
 }

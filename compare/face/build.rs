@@ -1,4 +1,4 @@
-//! Links the static library that `rt staticlib bisquefern` writes, which is for x86-64 alone.
+//! Links the static library that `tests/build archive` writes, which is for x86-64 alone.
 
 use std::{env, path::PathBuf};
 
@@ -14,7 +14,7 @@ fn main() {
     println!("cargo::rerun-if-changed={}", archive.display());
     if !archive.exists() {
         println!(
-            "cargo::error=target/staticlib/libbisquefern.a is missing: run rt staticlib bisquefern first"
+            "cargo::error=target/staticlib/libbisquefern.a is missing: run tests/build archive first"
         );
     }
     println!("cargo::rustc-link-search=native={}", folder.display());

@@ -5,8 +5,8 @@
  * prints a line for each call. SHIFT, 0 to 7, is how far from an aligned address each record stands: what is printed is
  * the same for all. After each call every place that is not of its answer must hold what it held.
  *
- * The calls run on a stack of their own, of the size that the header calls enough; outside it nothing may be written.
- * How much of it was written goes to standard error, this program's own frames among it. The header's number is rounded
+ * The calls run on a stack of their own, of the size that the header calls enough, that of a drawing's text on one of its own
+ * size; outside it nothing may be written. How much of it was written goes to standard error, this program's own frames among it. The header's number is rounded
  * up with room to spare: read from the archive's code, the frames of the deepest row of calls, bf_view_mark down to the
  * square root, take some 750 bytes. The file is C11 and C++17. */
 #define _XOPEN_SOURCE 700
@@ -58,14 +58,14 @@ static const bf_record R = {0, 2, {1, 0, 0}, 0, {2, 4}, 0, 0};
 static double long_outline[3 * 2001];
 
 /* The lent buffers, each with room past the longest answer. */
-enum { FILL = 0x55, STACK = BF_STACK_BYTES, AREA = 16 * STACK };
+enum { FILL = 0x55, AREA = 3 * BF_DXF_STACK_BYTES };
 static double numbers[3 * 2002 + 2];
 static uint64_t words[5];
 static unsigned char bytes[64 + 16];
 static size_t shift;
 
 /* What a call has answered. */
-enum kind { NUMBERS, BITS, ROUGH, WORDS, BYTE, RECORD, VERDICT, LIST, LIST_END };
+enum kind { NUMBERS, BITS, ROUGH, WORDS, BYTE, RECORD, VERDICT, LIST, LIST_END, DRAWN };
 static struct {
     const char *name;
     enum kind kind;
@@ -356,6 +356,33 @@ static void call_steps(void)
     say("trim, room for 63", RECORD, 0, bf_view_trim(Q, 12, at(&R), 64, 0, 1, out, 63));
 }
 
+#define HEAD "  0\nSECTION\n  2\nENTITIES\n  0\nLWPOLYLINE\n"
+#define CORNERS " 10\n0\n 20\n0\n 42\n0.5\n 10\n4.0\n 20\n0\n 10\n4\n 20\n-3.25\n"
+
+static uint8_t drawn(const char *text)
+{
+    return bf_dxf_outline((const uint8_t *)text, strlen(text), numbers, 3 * 2002, words, 2);
+}
+
+/* These stand on a larger stack. */
+static void call_drawings(void)
+{
+    static char longest[64 + 2001 * 10];
+    const char *closed = HEAD " 90\n3\n 70\n1\n" CORNERS "  0\nENDSEC\n";
+    size_t k = (size_t)sprintf(longest, "0\nLWPOLYLINE\n90\n2001\n");
+    for (int n = 0; n < 2001; n++, k += 10)
+        memcpy(longest + k, "10\n0\n20\n0\n", 11);
+    say("a closed drawing", DRAWN, 0, drawn(closed));
+    say("an open one, cut off", DRAWN, 0, drawn(HEAD "90\r\n3\r\n" CORNERS "0"));
+    say("no LWPOLYLINE", DRAWN, 0, drawn("  0\nEOF\n"));
+    say("a count of 2", DRAWN, 0, drawn(HEAD "90\n2\n" CORNERS));
+    say("a drawing of 2001 vertices", DRAWN, 0, drawn(longest));
+    say("a vertex at 1000001", DRAWN, 0, drawn(HEAD "90\n1\n10\n1000001\n20\n0\n"));
+    say("a drawing, room for 8", DRAWN, 0, bf_dxf_outline((const uint8_t *)closed, strlen(closed), numbers, 8, words, 2));
+    say("a drawing, room for a word", DRAWN, 0, bf_dxf_outline((const uint8_t *)closed, strlen(closed), numbers, 9, words, 1));
+    said.done = 1;
+}
+
 static void call_all(void)
 {
     call_numbers();
@@ -385,6 +412,7 @@ static const char *refusal_name(enum bf_refusal refusal)
         NAMED(BF_NOT_CLOSED)
         NAMED(BF_BAD_SHEET)
         NAMED(BF_BAD_RECORD)
+        NAMED(BF_BAD_TEXT)
     }
     return "unknown";
 }
@@ -462,11 +490,11 @@ static void print_said(void)
         printf(" with");
         print_numbers(" %.17g", 0, n);
     } else {
-        w = 1;
+        w = said.kind == DRAWN ? 2 : 1;
         n = 3 * words[0];
         print_words(w);
         printf(":");
-        print_numbers(" %.17g", said.kind == LIST ? 0 : n - 3, n);
+        print_numbers(" %.17g", said.kind == LIST_END ? n - 3 : 0, n);
     }
     printf("\n");
     if (!holds((unsigned char *)(numbers + n), (unsigned char *)numbers + sizeof numbers) ||
@@ -475,17 +503,18 @@ static void print_said(void)
         printf("%s wrote elsewhere\n", said.name);
 }
 
-int main(int argc, char **argv)
+/* Runs calls on a stack of that many bytes in the middle of the area. */
+static void run(void (*calls)(void), size_t stack)
 {
-    unsigned char *low = area + (AREA - STACK) / 2;
+    unsigned char *low = area + (AREA - stack) / 2;
     size_t k = 0;
-    shift = argc > 1 ? (size_t)atoi(argv[1]) % 8 : 0;
+    said.done = 0;
     memset(area, FILL, sizeof area);
     getcontext(&caller);
     caller.uc_stack.ss_sp = low;
-    caller.uc_stack.ss_size = STACK;
+    caller.uc_stack.ss_size = stack;
     caller.uc_link = &printer;
-    makecontext(&caller, call_all, 0);
+    makecontext(&caller, calls, 0);
     for (;;) {
         memset(numbers, FILL, sizeof numbers);
         memset(words, FILL, sizeof words);
@@ -495,10 +524,17 @@ int main(int argc, char **argv)
             break;
         print_said();
     }
-    if (!holds(area, low) || !holds(low + STACK, area + AREA))
-        printf("more than %d bytes of stack\n", (int)STACK);
+    if (!holds(area, low) || !holds(low + stack, area + AREA))
+        printf("more than %d bytes of stack\n", (int)stack);
     while (k < AREA && area[k] == FILL)
         k++;
-    fprintf(stderr, "tests/c: %d of %d bytes of stack were written\n", (int)(low + STACK - (area + k)), (int)STACK);
+    fprintf(stderr, "tests/c: %d of %d bytes of stack were written\n", (int)(low + stack - (area + k)), (int)stack);
+}
+
+int main(int argc, char **argv)
+{
+    shift = argc > 1 ? (size_t)atoi(argv[1]) % 8 : 0;
+    run(call_all, BF_STACK_BYTES);
+    run(call_drawings, BF_DXF_STACK_BYTES);
     return 0;
 }

@@ -1,5 +1,5 @@
 #!/bin/sh
-# The header declares the functions that the source has, with the same arguments in the same order, and face.c calls them all.
+# The header declares the functions that the source exports, with the same arguments in the same order, and face.c calls them all.
 set -eu
 here=$(cd "$(dirname "$0")" && pwd)
 root=$(cd "$here/../.." && pwd)
@@ -8,7 +8,7 @@ trap 'rm -rf "$work"' EXIT
 
 # Each `pub extern "C" fn` as its prototype in C: a slice is a pointer and a length. A kind that is not named here stays
 # as it is, and so differs from the header.
-cat "$root"/crates/bisquefern/src/*.rt | tr -s '\n ' '  ' | sed 's/pub extern "C" fn /\n&/g' |
+cat "$root"/crates/bisquefern_c/src/*.rt | tr -s '\n ' '  ' | sed 's/pub extern "C" fn /\n&/g' |
     sed -n 's/^pub extern "C" fn \([a-z0-9_]*\)(\([^)]*\)) -> \([a-z0-9]*\) .*/\3 \1(\2)/p' |
     sed -e 's/( */(/' -e 's/,* *)/)/' -e 's/^u8 /uint8_t /' \
         -e 's/\([a-z_]*\): &\(mut \)*\[\([a-z0-9]*\)\]/\2\3 *\1, size_t \1_len/g' \

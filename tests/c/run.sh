@@ -6,7 +6,7 @@ here=$(cd "$(dirname "$0")" && pwd)
 root=$(cd "$here/../.." && pwd)
 archive=$root/target/staticlib/libbisquefern.a
 if [ ! -f "$archive" ]; then
-    echo "tests/c: target/staticlib/libbisquefern.a is missing: run rt staticlib bisquefern first" >&2
+    echo "tests/c: target/staticlib/libbisquefern.a is missing: run tests/build archive first" >&2
     exit 1
 fi
 "$here/header.sh"

@@ -46,7 +46,7 @@ wrong=$(
     done
     # validation and what it asks take no root but the counted one, once; what takes one uncounted has these names
     for file in seg/specs/Closest.antt view/specs/Segment.antt view/specs/Validation.antt; do
-        ! grep -nwE 'rootOf|lengthOf|radiusOf|circleOf' "crates/$file" || echo "crates/$file takes a root that is not counted"
+        ! grep -nwE 'root_of|length_of|radius_of|circle_of' "crates/$file" || echo "crates/$file takes a root that is not counted"
     done
     for file in seg/src/closest.rt view/src/segment.rt view/src/validate.rt; do
         ! grep -nwE 'root|sqrt|length|arc_radius|seg_arc_radius_and_center' "crates/$file" || echo "crates/$file takes a root that is not counted"

@@ -5,7 +5,7 @@ here=$(cd "$(dirname "$0")" && pwd)
 root=$(cd "$here/../.." && pwd)
 program=$root/target/bin/sheet
 if [ ! -x "$program" ]; then
-    echo "tests/sheet: target/bin/sheet is missing: run rt check sheet first" >&2
+    echo "tests/sheet: target/bin/sheet is missing: run tests/build sheet first" >&2
     exit 1
 fi
 sheet() { "$root/tests/x86_64" "$program"; }

@@ -6,7 +6,7 @@ machine=$(uname -m)
 [ "$machine" = x86_64 ] || { echo "tests/use: not tried: the library is for x86-64, and README's commands for such a machine; this one is $machine"; exit; }
 fail() { echo "tests/use: $*" >&2; exit 1; }
 [ -f "$root/target/staticlib/libbisquefern.a" ] ||
-    fail "target/staticlib/libbisquefern.a is missing: run rt staticlib bisquefern first"
+    fail "target/staticlib/libbisquefern.a is missing: run tests/build archive first"
 command -v cc >/dev/null || fail "cc is missing"
 work=$(mktemp -d)
 trap 'rm -rf "$work"' EXIT

@@ -219,7 +219,7 @@ pub fn sheet_program() -> Result<PathBuf, String> {
         Some(path) => (PathBuf::from(path), "BISQUEFERN_SHEET names it"),
         None => (
             repository().join("target/bin/sheet"),
-            "run rt check sheet first",
+            "run tests/build sheet first",
         ),
     };
     if program.exists() {

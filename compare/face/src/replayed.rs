@@ -43,7 +43,7 @@ impl Replay {
         let program = repository().join("target/bin/replay");
         assert!(
             program.exists(),
-            "target/bin/replay is missing: run rt check replay first"
+            "target/bin/replay is missing: run tests/build replay first"
         );
         let child = command(&program)
             .stdin(Stdio::piped())
