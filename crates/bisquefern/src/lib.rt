@@ -1,4 +1,4 @@
-// The library's face for what links C, which `bisquefern_c` exports. Each function returns 0 where it answers, else document 01's
+// The calls of the C face over lent buffers, which `bisquefern_c` exports. Each returns 0 where it answers, else document 01's
 // refusal number, and then has written nothing.
 #![tactic(auto)]
 

@@ -1,6 +1,5 @@
 -- A drawing that is read has a sound outline, which no sheet refuses, and whose sheet is the drawing's.
 use Rattle.std.proofs.Common.{◌≡◌, sym, ap, ◌∙◌, ℕ, ◌≤◌, ◌+◌, ◌*◌, List, ◌++◌, length, take, drop, length-append, arith}
-use Rattle.std.specs.Prelude.{Float}
 use lib.Seq.{take_at}
 use borrow.Author.Tests.{le-leb}
 use Rattle.real.specs.Reply.{Reply, given, refused, and_then}

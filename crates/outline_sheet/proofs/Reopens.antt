@@ -15,7 +15,6 @@ use Rattle.real.specs.Reply.{given}
 use Rattle.plane.specs.Grade.{double}
 use Rattle.plane.specs.Range.{most_vertices, whole_outline, vertex_ok}
 use Rattle.plane.specs.Vertex.{vertex_at_of}
-use Rattle.plane.specs.declared.pline_vertex.PlineVertex.{PlineVertex}
 use Rattle.lists.specs.Every.{Every}
 use Rattle.lists.proofs.Tab.{length_tab, get_d_tab}
 use Rattle.view.specs.Outline.{count_of, vertex_value, all, numbers_ok}
@@ -26,7 +25,7 @@ use Rattle.record.proofs.Records.{join4, float_length, float_first, float_behind
 use Rattle.job.specs.Header.{header_size, vertex_size, header_value, header_under, header_good}
 use Rattle.job.specs.Outline.{vertex_in_of, numbers_in}
 use Rattle.record.specs.Record.{fields_ok}
-use Rattle.job.specs.Sheet.{outline_of, record_at_of, open_of}
+use Rattle.job.specs.Sheet.{record_at_of, open_of}
 use Rattle.job.specs.declared.header.Header.{Header}
 use Rattle.job.proofs.Sheets.{Accepted, accepted_rest}
 use Rattle.outline_sheet.specs.Sheet.{bytes2, flags_of, header_bytes, number_bytes, sheet_bytes}

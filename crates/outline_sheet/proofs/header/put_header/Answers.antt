@@ -1,8 +1,7 @@
 -- The bytes at hand are the header's.
 use mathlib.Core.Path.{ap}
-use mathlib.Core.List.{[], ◌∷◌, ◌++◌}
+use mathlib.Core.List.{◌++◌}
 use Prim.Native.Nat.{ℕ, ◌+◌, ◌*◌}
-use borrow.Author.Rules.{rules}
 use Rattle.record.specs.Bytes.{bytes4}
 use Rattle.text.proofs.Writing.{put_named}
 use Rattle.job.specs.Header.{header_size, vertex_size}

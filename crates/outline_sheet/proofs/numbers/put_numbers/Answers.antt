@@ -1,8 +1,6 @@
 -- After k turns the first k numbers stand in the buffer.
-use Prim.Native.Nat.{◌-◌}
 use native.Mathlib.Omega.{arith}
-use lib.ListN.{length}
-use Rattle.outline_sheet.proofs.Written.{Writing, writing_none, writing_more, writing_all}
+use Rattle.outline_sheet.proofs.Written.{writing_none, writing_more, writing_all}
 use Rattle.outline_sheet.proofs.numbers.put_numbers.Goals as goal
 
 pub loop-k-preserved : goal.loop-k-preserved

@@ -1,8 +1,7 @@
 -- After k turns the first k numbers stand in the buffer.
 use Prim.Native.Nat.{◌-◌}
-use native.Mathlib.Omega.{arith}
 use lib.ListN.{length}
-use Rattle.outline_sheet.proofs.Written.{Writing, writing_none, writing_more, writing_all}
+use Rattle.outline_sheet.proofs.Written.{Writing}
 use Rattle.outline_sheet.proofs.numbers.put_numbers.Given as goal
 
 abbrev pub invariant-loop-k : goal.invariant-loop-k

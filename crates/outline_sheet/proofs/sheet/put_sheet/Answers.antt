@@ -1,5 +1,4 @@
 -- The header, and then the numbers.
-use borrow.Author.Rules.{rules}
 use Rattle.text.proofs.Writing.{then}
 use Rattle.outline_sheet.specs.Sheet.{sheet_bytes}
 use Rattle.outline_sheet.proofs.sheet.put_sheet.Goals as goal
