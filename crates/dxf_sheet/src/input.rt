@@ -6,7 +6,7 @@ ghost use Rattle.dxf_sheet.specs.Drawing.{drawing_bytes};
 use console::{Input, read_input};
 use std::io::Read;
 
-// The longest drawing. It stands on the stack, of which Linux gives 8 MiB.
+// The longest drawing that is read, in bytes.
 pub(crate) const DRAWING_BYTES: usize = 4194304;
 
 // Into room for the longest drawing and a byte more, so that a longer one is seen to be one.

@@ -4,7 +4,7 @@ use mathlib.Core.Bool.{◌&&◌}
 use native.Mathlib.Omega.{arith}
 use lib.Dec.{ltb}
 use borrow.Author.Tests.{lt-ltb, le-ltb, ltb-true}
-use Rattle.real.specs.Refusal.{bad_number, bad_tolerance, bad_outline, bad_offset}
+use Rattle.real.specs.Refusal.{bad_number, bad_tolerance, bad_outline}
 use Rattle.real.specs.Reply.{Reply, check}
 use Rattle.real.proofs.Pick.{picks, good, bad, passed}
 use Rattle.real.proofs.Replies.{and_both}
@@ -15,30 +15,25 @@ use Rattle.view.specs.Create.{create_of}
 use Rattle.view.specs.declared.view_data.PlineViewData.{PlineViewData}
 use Rattle.view.proofs.Checks.{viewable_in}
 use Rattle.view.proofs.view_data.PlineViewData.create.Goals as goal
-use Rattle.view.proofs.view_data.PlineViewData.create.Goals.{Else-not-tol_and_limit_in_range, Else-traverse-eq0}
+use Rattle.view.proofs.view_data.PlineViewData.create.Goals.{Else-not-tol_and_limit_in_range}
 
--- past the third guard, and past the fourth, an answer is the definition's if it is what the definition has there
-past3 : (c : Else-not-tol_and_limit_in_range) {r x : Reply PlineViewData} → r ≡ x → let a = c.args in let s = a.source.now in
+-- past the third guard an answer is the definition's if it is what the definition has there
+past : (c : Else-not-tol_and_limit_in_range) {r x : Reply PlineViewData} → r ≡ x → let a = c.args in let s = a.source.now in
     r ≡ check (viewable s) bad_outline (check (numbers_ok double s && (point_ok double a.p && vertex_ok double a.first)) bad_number (check (tol_ok double a.eps && limit_ok double a.limit) bad_tolerance x))
-past3 c e =
+past c e =
     good _ c.serves_views.ensures c.if-not-serves_views.false
     (good _ c.all_in_range.ensures c.if-not-all_in_range.false
     (good _ c.tol_and_limit_in_range.ensures c.if-not-tol_and_limit_in_range.false e))
 
-past4 : (c : Else-traverse-eq0) {r x : Reply PlineViewData} → r ≡ x → let a = c.args in let s = a.source.now in
-    r ≡ check (viewable s) bad_outline (check (numbers_ok double s && (point_ok double a.p && vertex_ok double a.first)) bad_number (check (tol_ok double a.eps && limit_ok double a.limit) bad_tolerance (check (ltb 0 a.traverse) bad_offset x)))
-past4 c e =
-    good _ c.serves_views.ensures c.if-not-serves_views.false
-    (good _ c.all_in_range.ensures c.if-not-all_in_range.false
-    (good _ c.tol_and_limit_in_range.ensures c.if-not-tol_and_limit_in_range.false (simp (lt-ltb 0 c.args.traverse (omega (arith, c.if-traverse-eq0.false))) e)))
-
 pub returns-then-traverse-eq0 : goal.returns-then-traverse-eq0
 unfolding create_of
-returns-then-traverse-eq0 c = past3 (goal.at.returns-then-traverse-eq0 c).Else-not-tol_and_limit_in_range (simp (le-ltb 0 c.args.traverse (omega (arith, c.if-traverse-eq0.true))))
+returns-then-traverse-eq0 c = past (goal.at.returns-then-traverse-eq0 c).Else-not-tol_and_limit_in_range (simp (le-ltb 0 c.args.traverse (omega (arith, c.if-traverse-eq0.true))))
 
 pub returns-then-not-both_less : goal.returns-then-not-both_less
 unfolding create_of
-returns-then-not-both_less c = past4 (goal.at.returns-then-not-both_less c).Else-traverse-eq0 (bad _ c.both_less.ensures c.if-not-both_less.true refl)
+returns-then-not-both_less c =
+    past (goal.at.returns-then-not-both_less c).Else-not-tol_and_limit_in_range
+    (simp (lt-ltb 0 c.args.traverse (omega (arith, c.if-traverse-eq0.false))) (bad _ c.both_less.ensures c.if-not-both_less.true refl))
 
 pub find_end-e-requires : goal.find_end-e-requires
 find_end-e-requires c =
@@ -55,7 +50,8 @@ find_end-e-requires c =
 pub returns : goal.returns
 unfolding create_of
 returns c =
-    past4 (goal.at.returns c).Else-traverse-eq0 (good _ c.both_less.ensures c.if-not-both_less.false (rw c.find_end-e.ensures at c.ended_at.ensures))
+    past (goal.at.returns c).Else-not-tol_and_limit_in_range
+    (simp (lt-ltb 0 c.args.traverse (omega (arith, c.if-traverse-eq0.false))) (good _ c.both_less.ensures c.if-not-both_less.false (rw c.find_end-e.ensures at c.ended_at.ensures)))
 
 pub returns-then-not-serves_views : goal.returns-then-not-serves_views
 unfolding create_of

@@ -1,6 +1,6 @@
 -- Each return is the definition's link whose test the code made; past them the vertex is looked up.
 use mathlib.Core.Path.{◌≡◌, refl, sym, ◌∙◌}
-use mathlib.Core.Bool.{◌&&◌}
+use mathlib.Core.Bool.{true, ◌&&◌}
 use mathlib.Core.List.{List}
 use Prim.Native.Nat.{ℕ}
 use native.Mathlib.Omega.{arith}
@@ -12,37 +12,33 @@ use Rattle.real.specs.Reply.{Reply, given, check}
 use Rattle.real.proofs.Pick.{bad, good, passed}
 use Rattle.plane.specs.Grade.{double}
 use Rattle.plane.specs.declared.pline_vertex.PlineVertex.{PlineVertex}
+use Rattle.view.specs.Outline.{viewable}
 use Rattle.view.specs.Record.{vertices, record_vertex_of, record_ok, reads_ok}
 use Rattle.view.specs.Needs.{Placed, PlacedAt}
 use Rattle.view.specs.Answers.{get_vertex_of}
 use Rattle.view.specs.declared.view_data.PlineViewData.{PlineViewData}
 use Rattle.view.proofs.Checks.{told_refused, told_passed, place_placed, place_rest, place_refused}
 use Rattle.view.proofs.view_data.PlineViewData.get_vertex.Goals as goal
-use Rattle.view.proofs.view_data.PlineViewData.get_vertex.Goals.{Else-index-offset, In_default}
+use Rattle.view.proofs.view_data.PlineViewData.get_vertex.Goals.{In_default}
 
 -- the definition's last link
 abbrev last : List Float → PlineViewData → ℕ → Reply PlineVertex
 last s d k = check (record_ok double d && reads_ok double s d k) bad_number (given (record_vertex_of double s d k))
 
-placed : (c : In_default) → Placed c.args.source.now c.args.self
-placed c =
-    place_placed _ _ _ (passed c.serves_views.ensures c.if-not-serves_views.false) (told_passed c.in_default.is c.check_place-place.ensures)
-
 -- past the place's check the answer is the last two links, and past the position's the last
-past : (c : In_default) → check (ltb c.args.index (vertices c.args.self)) bad_index (last c.args.source.now c.args.self c.args.index) ≡ get_vertex_of double c.args.source.now c.args.self c.args.index
+past : (s : List Float) (d : PlineViewData) (k : ℕ) → viewable s ≡ true → Placed s d → check (ltb k (vertices d)) bad_index (last s d k) ≡ get_vertex_of double s d k
 unfolding get_vertex_of
-past c =
-    good _ c.serves_views.ensures c.if-not-serves_views.false (sym (place_rest _ _ _ (placed c)))
+past s d k v p = good _ refl v (sym (place_rest _ _ _ p))
 
-past_more : (c : Else-index-offset) → check (ltb c.args.index (vertices c.args.self)) bad_index (last c.args.source.now c.args.self c.args.index) ≡ get_vertex_of double c.args.source.now c.args.self c.args.index
-unfolding get_vertex_of
-past_more c = good _ c.serves_views.ensures c.if-not-serves_views.false (sym (place_rest _ _ _ (place_placed _ _ _ (passed c.serves_views.ensures c.if-not-serves_views.false) (told_passed c.in_default.is c.check_place-place.ensures))))
+found : (s : List Float) (d : PlineViewData) (k : ℕ) → viewable s ≡ true → PlacedAt s d k → last s d k ≡ get_vertex_of double s d k
+found s d k v p = simp (lt-ltb _ _ p.position) at (past s d k v p.placed)
 
-past2 : (c : Else-index-offset) → last c.args.source.now c.args.self c.args.index ≡ get_vertex_of double c.args.source.now c.args.self c.args.index
-past2 c = simp (lt-ltb _ _ c.if-index-offset.false) at (past_more c)
+-- what the first guard and the place's check say of the outline and the view
+seen : (c : In_default) → viewable c.args.source.now ≡ true
+seen c = passed c.serves_views.ensures c.if-not-serves_views.false
 
-at : (c : Else-index-offset) → PlacedAt c.args.source.now c.args.self c.args.index
-at c = record { placed = place_placed _ _ _ (passed c.serves_views.ensures c.if-not-serves_views.false) (told_passed c.in_default.is c.check_place-place.ensures); position = c.if-index-offset.false }
+placed : (c : In_default) → Placed c.args.source.now c.args.self
+placed c = place_placed _ _ _ (seen c) (told_passed c.in_default.is c.check_place-place.ensures)
 
 pub returns-then-not-serves_views : goal.returns-then-not-serves_views
 unfolding get_vertex_of
@@ -54,20 +50,25 @@ returns-in-Refused c =
     good _ c.serves_views.ensures c.if-not-serves_views.false (place_refused _ _ _ _ (told_refused c.in-Refused.is c.check_place-place.ensures))
 
 pub returns-then-index-offset : goal.returns-then-index-offset
-returns-then-index-offset c = simp (le-ltb _ _ c.if-index-offset.true) at (past (goal.at.returns-then-index-offset c).In_default)
+returns-then-index-offset c =
+    let at = (goal.at.returns-then-index-offset c).In_default in
+    simp (le-ltb _ _ c.if-index-offset.true) at (past c.args.source.now c.args.self c.args.index (seen at) (placed at))
 
 pub returns-then-not-lookup_in_range : goal.returns-then-not-lookup_in_range
-returns-then-not-lookup_in_range c = bad _ c.lookup_in_range.ensures c.if-not-lookup_in_range.true refl ∙ past2 (goal.at.returns-then-not-lookup_in_range c).Else-index-offset
+returns-then-not-lookup_in_range c =
+    let at = (goal.at.returns-then-not-lookup_in_range c).In_default in
+    bad _ c.lookup_in_range.ensures c.if-not-lookup_in_range.true refl ∙ found _ _ _ (seen at) (record { placed = placed at; position = c.if-index-offset.false })
 
 pub returns : goal.returns
 returns c =
-    good _ c.lookup_in_range.ensures c.if-not-lookup_in_range.false (rw c.vertex_of.ensures) ∙ past2 (goal.at.returns c).Else-index-offset
+    let at = (goal.at.returns c).In_default in
+    good _ c.lookup_in_range.ensures c.if-not-lookup_in_range.false (rw c.vertex_of.ensures) ∙ found _ _ _ (seen at) (record { placed = placed at; position = c.if-index-offset.false })
 
 pub overflow_add-offset : goal.overflow_add-offset
 overflow_add-offset c = omega (arith, placed c)
 
 pub lookup_in_range-requires : goal.lookup_in_range-requires
-lookup_in_range-requires c = at c
+lookup_in_range-requires c = record { placed = placed (goal.at.lookup_in_range-requires c).In_default; position = c.if-index-offset.false }
 
 pub vertex_of-requires : goal.vertex_of-requires
-vertex_of-requires c = at (goal.at.vertex_of-requires c).Else-index-offset
+vertex_of-requires c = record { placed = placed (goal.at.vertex_of-requires c).In_default; position = c.if-index-offset.false }
