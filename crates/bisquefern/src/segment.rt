@@ -11,14 +11,9 @@ ghost use Rattle.lent.specs.Lent.{Answered};
 ghost use Rattle.lent.specs.Values as values;
 ghost use Rattle.bisquefern.specs.Calls.{of_segment, point};
 
-use lent::{
-    SegmentAnswer, give_box, give_circle, give_flag, give_point, give_split, segment_from_slice,
-};
+use lent::{give_box, give_circle, give_flag, give_point, give_split, segment_from_slice};
 use plane::Vector2;
-use seg::{
-    seg_arc_radius_and_center, seg_bounding_box, seg_closest_point, seg_distance_is_greater_than,
-    seg_midpoint, seg_split_at_point, seg_tangent_vector,
-};
+use seg::{seg_arc_radius_and_center, seg_bounding_box, seg_closest_point, seg_distance_is_greater_than, seg_midpoint, seg_split_at_point, seg_tangent_vector};
 
 // Radius and centre of an arc. 3, 1, 2, 6, 8.
 pub fn bf_seg_arc_radius_and_center(seg: &[f64], line_limit: f64, out: &mut [f64]) -> u8
@@ -26,11 +21,11 @@ pub fn bf_seg_arc_radius_and_center(seg: &[f64], line_limit: f64, out: &mut [f64
 {
     let segment = segment_from_slice(seg);
     match segment {
-        SegmentAnswer::Given(v1, v2) => give_circle(
+        Ok(v1, v2) => give_circle(
             seg_arc_radius_and_center(v1, v2, line_limit),
             out,
         ),
-        SegmentAnswer::Refused(n) => n,
+        Err(n) => n,
     }
 }
 
@@ -47,11 +42,11 @@ pub fn bf_seg_split_at_point(
 {
     let segment = segment_from_slice(seg);
     match segment {
-        SegmentAnswer::Given(v1, v2) => give_split(
+        Ok(v1, v2) => give_split(
             seg_split_at_point(v1, v2, Vector2 { x, y }, tolerance, line_limit),
             out,
         ),
-        SegmentAnswer::Refused(n) => n,
+        Err(n) => n,
     }
 }
 
@@ -61,13 +56,13 @@ pub fn bf_seg_tangent_vector(seg: &[f64], x: f64, y: f64, line_limit: f64, out: 
 {
     let segment = segment_from_slice(seg);
     match segment {
-        SegmentAnswer::Given(v1, v2) => {
+        Ok(v1, v2) => {
             give_point(
                 seg_tangent_vector(v1, v2, Vector2 { x, y }, line_limit),
                 out,
             )
         }
-        SegmentAnswer::Refused(n) => n,
+        Err(n) => n,
     }
 }
 
@@ -84,11 +79,11 @@ pub fn bf_seg_closest_point(
 {
     let segment = segment_from_slice(seg);
     match segment {
-        SegmentAnswer::Given(v1, v2) => give_point(
+        Ok(v1, v2) => give_point(
             seg_closest_point(v1, v2, Vector2 { x, y }, tolerance, line_limit),
             out,
         ),
-        SegmentAnswer::Refused(n) => n,
+        Err(n) => n,
     }
 }
 
@@ -106,11 +101,11 @@ pub fn bf_seg_distance_is_greater_than(
 {
     let segment = segment_from_slice(seg);
     match segment {
-        SegmentAnswer::Given(v1, v2) => give_flag(
+        Ok(v1, v2) => give_flag(
             seg_distance_is_greater_than(v1, v2, Vector2 { x, y }, distance, tolerance, line_limit),
             out,
         ),
-        SegmentAnswer::Refused(n) => n,
+        Err(n) => n,
     }
 }
 
@@ -120,8 +115,8 @@ pub fn bf_seg_bounding_box(seg: &[f64], line_limit: f64, out: &mut [f64]) -> u8
 {
     let segment = segment_from_slice(seg);
     match segment {
-        SegmentAnswer::Given(v1, v2) => give_box(seg_bounding_box(v1, v2, line_limit), out),
-        SegmentAnswer::Refused(n) => n,
+        Ok(v1, v2) => give_box(seg_bounding_box(v1, v2, line_limit), out),
+        Err(n) => n,
     }
 }
 
@@ -131,7 +126,7 @@ pub fn bf_seg_midpoint(seg: &[f64], line_limit: f64, out: &mut [f64]) -> u8
 {
     let segment = segment_from_slice(seg);
     match segment {
-        SegmentAnswer::Given(v1, v2) => give_point(seg_midpoint(v1, v2, line_limit), out),
-        SegmentAnswer::Refused(n) => n,
+        Ok(v1, v2) => give_point(seg_midpoint(v1, v2, line_limit), out),
+        Err(n) => n,
     }
 }

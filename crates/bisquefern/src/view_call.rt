@@ -10,8 +10,8 @@ ghost use Rattle.bisquefern.specs.Calls.{of_record, of_vertex, is_closed, point}
 
 use lent::{give_count, give_list, give_mark, give_record, give_verdict, give_vertex};
 use plane::{PlineVertex, Vector2};
-use real::BAD_OUTLINE;
-use record::{RecordAnswer, record_from_bytes};
+use real::Refusal;
+use record::record_from_bytes;
 use view::PlineViewData;
 
 // The record of a view from `vertex` on segment `start`, over `traverse` vertices to (x, y) on segment `intersect`. 3, 1, 2, 5, 4, 5, 8.
@@ -30,7 +30,7 @@ pub fn bf_view_create(
     ensures { Answered record_bytes (of_vertex vertex.now (λ v. create_of double line_limit outline.now start (point x y) intersect v traverse tolerance)) out.old result out.new }
 {
     if vertex.len() != 3 {
-        return BAD_OUTLINE;
+        return Refusal::BadOutline;
     }
     let first = PlineVertex {
         x: vertex[0],
@@ -90,12 +90,12 @@ pub fn bf_view_validate(
 {
     let decoded = record_from_bytes(bytes);
     match decoded {
-        RecordAnswer::Given(d) => give_verdict(
+        Ok(d) => give_verdict(
             d.validate_for_source(outline, line_limit),
             whole,
             out,
         ),
-        RecordAnswer::Refused(n) => n,
+        Err(n) => n,
     }
 }
 
@@ -111,8 +111,8 @@ pub fn bf_view_mark(
 {
     let decoded = record_from_bytes(bytes);
     match decoded {
-        RecordAnswer::Given(d) => give_mark(d.mark(outline, closed != 0, line_limit), out),
-        RecordAnswer::Refused(n) => n,
+        Ok(d) => give_mark(d.mark(outline, closed != 0, line_limit), out),
+        Err(n) => n,
     }
 }
 
@@ -122,8 +122,8 @@ pub fn bf_view_count(outline: &[f64], bytes: &[u8], out: &mut [u64]) -> u8
 {
     let decoded = record_from_bytes(bytes);
     match decoded {
-        RecordAnswer::Given(d) => give_count(d.vertex_count(outline), out),
-        RecordAnswer::Refused(n) => n,
+        Ok(d) => give_count(d.vertex_count(outline), out),
+        Err(n) => n,
     }
 }
 
@@ -133,8 +133,8 @@ pub fn bf_view_get(outline: &[f64], bytes: &[u8], position: u64, out: &mut [f64]
 {
     let decoded = record_from_bytes(bytes);
     match decoded {
-        RecordAnswer::Given(d) => give_vertex(d.get_vertex(outline, position as usize), out),
-        RecordAnswer::Refused(n) => n,
+        Ok(d) => give_vertex(d.get_vertex(outline, position as usize), out),
+        Err(n) => n,
     }
 }
 
@@ -144,8 +144,8 @@ pub fn bf_view_list(outline: &[f64], bytes: &[u8], out: &mut [f64], count: &mut 
 {
     let decoded = record_from_bytes(bytes);
     match decoded {
-        RecordAnswer::Given(d) => give_list(outline, d, out, count),
-        RecordAnswer::Refused(n) => n,
+        Ok(d) => give_list(outline, d, out, count),
+        Err(n) => n,
     }
 }
 
@@ -155,8 +155,8 @@ pub fn bf_view_reverse(outline: &[f64], bytes: &[u8], out: &mut [u8]) -> u8
 {
     let decoded = record_from_bytes(bytes);
     match decoded {
-        RecordAnswer::Given(d) => give_record(d.reverse(outline), out),
-        RecordAnswer::Refused(n) => n,
+        Ok(d) => give_record(d.reverse(outline), out),
+        Err(n) => n,
     }
 }
 
@@ -166,7 +166,7 @@ pub fn bf_view_trim(outline: &[f64], bytes: &[u8], i: u64, j: u64, out: &mut [u8
 {
     let decoded = record_from_bytes(bytes);
     match decoded {
-        RecordAnswer::Given(d) => give_record(d.trim(outline, i as usize, j as usize), out),
-        RecordAnswer::Refused(n) => n,
+        Ok(d) => give_record(d.trim(outline, i as usize, j as usize), out),
+        Err(n) => n,
     }
 }

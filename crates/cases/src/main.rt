@@ -1,12 +1,9 @@
 // Document 01's cases that are run, and a traced arc at two line limits: each is a line of the stored output.
 #![tactic(auto)]
 
-use plane::{LINE_LIMIT, PlineVertex, Vector2, VertexAnswer, fuzzy_eq_eps};
-use seg::{
-    BoolAnswer, BoxAnswer, PointAnswer, SplitAnswer, seg_bounding_box, seg_closest_point,
-    seg_distance_is_greater_than, seg_split_at_point,
-};
-use view::{CountAnswer, PlineViewData};
+use plane::{LINE_LIMIT, PlineVertex, Vector2, fuzzy_eq_eps};
+use seg::{seg_bounding_box, seg_closest_point, seg_distance_is_greater_than, seg_split_at_point};
+use view::PlineViewData;
 
 fn say(rt: &impl Print, text: &str) {
     let _ = rt.print(text);
@@ -51,8 +48,8 @@ fn position_2(rt: &impl Print) {
     let outline = [0.0f64; 6];
     let answer = short_view().get_vertex(&outline, 2);
     match answer {
-        VertexAnswer::Given(_) => say(rt, "a vertex\n"),
-        VertexAnswer::Refused(n) => say_refusal(rt, n),
+        Ok(_) => say(rt, "a vertex\n"),
+        Err(n) => say_refusal(rt, n),
     }
 }
 
@@ -61,16 +58,16 @@ fn tolerance_0(rt: &impl Print) {
     let p = Vector2 { x: 0.0, y: 0.0 };
     let answer = seg_closest_point(start_of_h(), end_of_h(), p, 0.0, LINE_LIMIT);
     match answer {
-        PointAnswer::Given(_) => say(rt, "a point\n"),
-        PointAnswer::Refused(n) => say_refusal(rt, n),
+        Ok(_) => say(rt, "a point\n"),
+        Err(n) => say_refusal(rt, n),
     }
 }
 
 fn say_count(rt: &impl Print, outline: &[f64]) {
     let answer = short_view().vertex_count(outline);
     match answer {
-        CountAnswer::Given(_) => say(rt, "pass\n"),
-        CountAnswer::Refused(n) => say_refusal(rt, n),
+        Ok(_) => say(rt, "pass\n"),
+        Err(n) => say_refusal(rt, n),
     }
 }
 
@@ -92,12 +89,12 @@ fn split_of_h(rt: &impl Print) {
     let p = Vector2 { x: 0.5, y: -0.5 };
     let answer = seg_split_at_point(start_of_h(), end_of_h(), p, 1e-5, LINE_LIMIT);
     match answer {
-        SplitAnswer::Given(split) => {
+        Ok(split) => {
             let a = split.updated_start;
             let b = split.split_vertex;
             say_whether(rt, is_tan_of_eighth(a.bulge) && is_tan_of_eighth(b.bulge));
         }
-        SplitAnswer::Refused(n) => say_refusal(rt, n),
+        Err(n) => say_refusal(rt, n),
     }
 }
 
@@ -105,8 +102,8 @@ fn say_distance(rt: &impl Print, d: f64) {
     let p = Vector2 { x: 0.5, y: 0.0 };
     let answer = seg_distance_is_greater_than(start_of_h(), end_of_h(), p, d, 1e-5, LINE_LIMIT);
     match answer {
-        BoolAnswer::Given(yes) => say_whether(rt, yes),
-        BoolAnswer::Refused(n) => say_refusal(rt, n),
+        Ok(yes) => say_whether(rt, yes),
+        Err(n) => say_refusal(rt, n),
     }
 }
 
@@ -117,15 +114,15 @@ fn traced_arc(rt: &impl Print, limit: f64) {
     say(rt, ", box down to 0: ");
     let answer = seg_bounding_box(start, end, limit);
     match answer {
-        BoxAnswer::Given(b) => say_whether(rt, b.min_y == 0.0),
-        BoxAnswer::Refused(n) => say_refusal(rt, n),
+        Ok(b) => say_whether(rt, b.min_y == 0.0),
+        Err(n) => say_refusal(rt, n),
     }
     say(rt, "closest to (1,1) is (1,0): ");
     let p = Vector2 { x: 1.0, y: 1.0 };
     let answer = seg_closest_point(start, end, p, 1e-5, limit);
     match answer {
-        PointAnswer::Given(q) => say_whether(rt, q.x == 1.0 && q.y == 0.0),
-        PointAnswer::Refused(n) => say_refusal(rt, n),
+        Ok(q) => say_whether(rt, q.x == 1.0 && q.y == 0.0),
+        Err(n) => say_refusal(rt, n),
     }
 }
 

@@ -19,8 +19,6 @@ use Rattle.dxf.specs.Outline.{Drawn, judged, outline_of, room_for, handed_over, 
 use Rattle.dxf.specs.declared.state.State.{State}
 use Rattle.dxf.specs.declared.state.StepAnswer.{StepAnswer}
 use Rattle.dxf.specs.declared.state.StepAnswer.TheVariants as step_case
-use Rattle.dxf.specs.declared.outline.DxfAnswer.{DxfAnswer}
-use Rattle.dxf.specs.declared.outline.DxfAnswer.TheVariants as dxf-case
 
 answers_as : {d e : Reply Drawn} (r : DxfAnswer) (l after : List Float) → d ≡ e → Answers e r l after → Answers d r l after
 answers_as r l after e h = subst (λ (x : Reply Drawn). Answers x r l after) (sym e) h

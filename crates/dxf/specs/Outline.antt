@@ -1,7 +1,7 @@
 -- What a call answers, and what the lent buffer holds afterwards.
 use Rattle.std.specs.Prelude.{ℕ, Bool, cond, ◌≡◌, List, ◌++◌, length, drop, leb, Float}
 use Rattle.real.specs.Refusal.{bad_number, bad_outline, lacks_room}
-use Rattle.real.specs.Reply.{Reply, refused, given, check, and_then}
+use Rattle.real.specs.Reply.{Reply, refused, given, check, and_then, reply}
 use Rattle.plane.specs.Grade.{double}
 use Rattle.plane.specs.Range.{most_vertices}
 use Rattle.view.specs.Outline.{count_of, numbers_ok}
@@ -9,8 +9,6 @@ use Rattle.dxf.specs.Line.{lines_of}
 use Rattle.dxf.specs.Item.{items_of}
 use Rattle.dxf.specs.Entity.{entity_of}
 use Rattle.dxf.specs.declared.outline.DxfOutline.{DxfOutline}
-use Rattle.dxf.specs.declared.outline.DxfAnswer.{DxfAnswer}
-use Rattle.dxf.specs.declared.outline.DxfAnswer.TheVariants as dxf-case
 
 -- an outline: its numbers in threes, and whether it is closed
 pub record Drawn : Type 0 where
@@ -30,10 +28,6 @@ outline_of b = and_then (entity_of (items_of (lines_of b))) (λ s. judged s.numb
 unfoldable pub room_for : ℕ → Drawn → Reply DxfOutline
 room_for m o = check (leb (length o.numbers) m) lacks_room (given (record { vertices = count_of o.numbers; closed = o.closed }))
 
-abbrev pub dxf_reply : DxfAnswer → Reply DxfOutline
-dxf_reply (dxf-case.Given d) = given d
-dxf_reply (dxf-case.Refused k) = refused k
-
 unfoldable pub outline_to : List ℕ → ℕ → Reply DxfOutline
 outline_to b m = and_then (outline_of b) (room_for m)
 
@@ -48,4 +42,4 @@ outline_buffer b before = handed_over (outline_of b) before
 -- ---- the word of the inner contracts
 
 abbrev pub Answers : Reply Drawn → DxfAnswer → List Float → List Float → Type 0
-Answers d r before after = (dxf_reply r ≡ and_then d (room_for (length before))) × (after ≡ handed_over d before)
+Answers d r before after = (reply r ≡ and_then d (room_for (length before))) × (after ≡ handed_over d before)

@@ -6,8 +6,8 @@ ghost use Rattle.dxf.specs.State.{uncounted, Holds, Read};
 ghost use Rattle.dxf.specs.Turn as spec;
 
 use crate::item::{ItemAnswer, item_at};
-use crate::state::{OUTLINE_NUMBERS, State, StepAnswer, step};
-use real::BAD_TEXT;
+use crate::state::{OUTLINE_NUMBERS, State, step};
+use real::Refusal;
 
 // Where no 90 has been read.
 const NO_COUNT: u64 = 10_000_000_000_000_000_000;
@@ -28,12 +28,12 @@ fn turn(bytes: &[u8], at: usize, s: State, out: &mut [f64; OUTLINE_NUMBERS]) -> 
 {
     match item_at(bytes, at) {
         ItemAnswer::End => TurnAnswer::Done,
-        ItemAnswer::Odd => TurnAnswer::Refused(BAD_TEXT),
+        ItemAnswer::Odd => TurnAnswer::Refused(Refusal::BadText),
         ItemAnswer::Lone(c) => {
             if c == 0 {
                 TurnAnswer::Done
             } else {
-                TurnAnswer::Refused(BAD_TEXT)
+                TurnAnswer::Refused(Refusal::BadText)
             }
         }
         ItemAnswer::Pair {
@@ -46,8 +46,8 @@ fn turn(bytes: &[u8], at: usize, s: State, out: &mut [f64; OUTLINE_NUMBERS]) -> 
                 return TurnAnswer::Done;
             }
             match step(s, code, &bytes[start..end], out) {
-                StepAnswer::Given(t) => TurnAnswer::More(t, next),
-                StepAnswer::Refused(k) => TurnAnswer::Refused(k),
+                Ok(t) => TurnAnswer::More(t, next),
+                Err(k) => TurnAnswer::Refused(k),
             }
         }
     }
@@ -62,7 +62,7 @@ fn ends(s: State) -> bool
 }
 
 // The entity whose items begin at a place.
-fn body(bytes: &[u8], at: usize, out: &mut [f64; OUTLINE_NUMBERS]) -> StepAnswer
+fn body(bytes: &[u8], at: usize, out: &mut [f64; OUTLINE_NUMBERS]) -> Result<State, Refusal>
     requires { at ≤ length bytes.now }
     ensures { Read (entity.body_of entity.start (items_at bytes.now at)) result out.new }
 {
@@ -78,11 +78,11 @@ fn body(bytes: &[u8], at: usize, out: &mut [f64; OUTLINE_NUMBERS]) -> StepAnswer
         match turn(bytes, i, s, out) {
             TurnAnswer::Done => {
                 if ends(s) {
-                    return StepAnswer::Given(s);
+                    return Ok(s);
                 }
-                return StepAnswer::Refused(BAD_TEXT);
+                return Err(Refusal::BadText);
             }
-            TurnAnswer::Refused(k) => return StepAnswer::Refused(k),
+            TurnAnswer::Refused(k) => return Err(k),
             TurnAnswer::More(t, next) => {
                 s = t;
                 i = next;
@@ -150,14 +150,14 @@ fn seek_at(bytes: &[u8], at: usize) -> SeekAnswer
 }
 
 // The first LWPOLYLINE, in a buffer for the largest outline.
-pub(crate) fn read(bytes: &[u8], out: &mut [f64; OUTLINE_NUMBERS]) -> StepAnswer
+pub(crate) fn read(bytes: &[u8], out: &mut [f64; OUTLINE_NUMBERS]) -> Result<State, Refusal>
     ensures { Read (entity.entity_of (items_at bytes.now 0)) result out.new }
 {
     let mut i = 0;
     loop {
         match seek_at(bytes, i) {
             SeekAnswer::Found(at) => return body(bytes, at, out),
-            SeekAnswer::Nothing => return StepAnswer::Refused(BAD_TEXT),
+            SeekAnswer::Nothing => return Err(Refusal::BadText),
             SeekAnswer::On(next) => {
                 i = next;
             }

@@ -1,21 +1,21 @@
 // Codes and values, in pairs of lines.
 ghost use Rattle.std.specs.Prelude.{◌≡◌, ◌≤◌, length};
-ghost use Rattle.numeral.specs.Digits.{whole_reply};
+ghost use Rattle.real.specs.Reply.{reply};
 ghost use Rattle.dxf.specs.Item as spec;
 
 use crate::line::line_at;
-use numeral::{WholeAnswer, whole};
-use real::BAD_TEXT;
+use numeral::whole;
+use real::Refusal;
 
 // The most digits of a code.
 const CODE_DIGITS: usize = 4;
 
 // The number of a code.
-fn code(text: &[u8]) -> WholeAnswer
-    ensures { whole_reply result ≡ spec.code_of text.now }
+fn code(text: &[u8]) -> Result<u64, Refusal>
+    ensures { reply result ≡ spec.code_of text.now }
 {
     if text.len() > CODE_DIGITS {
-        return WholeAnswer::Refused(BAD_TEXT);
+        return Err(Refusal::BadText);
     }
     whole(text)
 }
@@ -66,8 +66,8 @@ pub(crate) fn item_at(bytes: &[u8], at: usize) -> ItemAnswer
         let end = l.end;
         let next = l.next;
         match code(&bytes[start..end]) {
-            WholeAnswer::Given(c) => valued(bytes, c, next),
-            WholeAnswer::Refused(_) => ItemAnswer::Odd,
+            Ok(c) => valued(bytes, c, next),
+            Err(_) => ItemAnswer::Odd,
         }
     } else {
         ItemAnswer::End

@@ -7,5 +7,5 @@ mod line;
 mod outline;
 mod state;
 
-pub use outline::{DxfAnswer, DxfOutline, dxf_outline};
+pub use outline::{DxfOutline, dxf_outline};
 pub use state::OUTLINE_NUMBERS;

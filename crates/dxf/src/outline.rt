@@ -1,14 +1,15 @@
 // An outline read from the text of a DXF file.
 ghost use Rattle.std.specs.Prelude.{◌≡◌, ◌++◌, ◌≤◌, ◌*◌, length, take, drop};
+ghost use Rattle.real.specs.Reply.{reply};
 ghost use Rattle.plane.specs.Range.{most_vertices};
 ghost use Rattle.dxf.specs.Entity as entity;
 ghost use Rattle.dxf.specs.State.{Holds};
 ghost use Rattle.dxf.specs.Outline as spec;
 
 use crate::entity::read;
-use crate::state::{OUTLINE_NUMBERS, State, StepAnswer};
+use crate::state::{OUTLINE_NUMBERS, State};
 use plane::MOST_VERTICES;
-use real::{BAD_NUMBER, BAD_OUTLINE, NO_ROOM};
+use real::Refusal;
 use view::vertices_in_range;
 
 // How many vertices the outline has, and whether it is closed.
@@ -16,12 +17,6 @@ use view::vertices_in_range;
 pub struct DxfOutline {
     pub vertices: usize,
     pub closed: bool,
-}
-
-#[derive(Clone, Copy)]
-pub enum DxfAnswer {
-    Given(DxfOutline),
-    Refused(u8),
 }
 
 // Copies the numbers to the buffer's start.
@@ -37,49 +32,49 @@ fn copy(numbers: &[f64], out: &mut [f64])
 }
 
 // Judges what has been read, past the vertex limit, and hands it over.
-fn hand_over(numbers: &[f64], closed: bool, out: &mut [f64]) -> DxfAnswer
+fn hand_over(numbers: &[f64], closed: bool, out: &mut [f64]) -> Result<DxfOutline, Refusal>
     requires { length numbers.now ≤ 3 * most_vertices }
     ensures { spec.Answers (spec.judged numbers.now closed) result out.old out.new }
 {
     if !vertices_in_range(numbers) {
-        return DxfAnswer::Refused(BAD_NUMBER);
+        return Err(Refusal::BadNumber);
     }
     if numbers.len() > out.len() {
-        return DxfAnswer::Refused(NO_ROOM);
+        return Err(Refusal::NoRoom);
     }
     copy(numbers, out);
-    DxfAnswer::Given(DxfOutline {
+    Ok(DxfOutline {
         vertices: numbers.len() / 3,
         closed,
     })
 }
 
 // The same, of what has been read into a buffer for the largest outline.
-fn finish(s: State, a: &[f64], out: &mut [f64]) -> DxfAnswer
+fn finish(s: State, a: &[f64], out: &mut [f64]) -> Result<DxfOutline, Refusal>
     requires { length a.now ≡ 3 * most_vertices }
     ensures { (m : entity.Seen) → Holds s a.now m → spec.Answers (spec.judged m.numbers m.closed) result out.old out.new }
 {
     let n = s.vertices;
     if n > MOST_VERTICES {
-        return DxfAnswer::Refused(BAD_OUTLINE);
+        return Err(Refusal::BadOutline);
     }
     let e = 3 * n;
     hand_over(&a[..e], s.closed, out)
 }
 
-fn finish_read(s: State, a: &[f64; OUTLINE_NUMBERS], out: &mut [f64]) -> DxfAnswer
+fn finish_read(s: State, a: &[f64; OUTLINE_NUMBERS], out: &mut [f64]) -> Result<DxfOutline, Refusal>
     ensures { (m : entity.Seen) → Holds s a.now m → spec.Answers (spec.judged m.numbers m.closed) result out.old out.new }
 {
     finish(s, a, out)
 }
 
 // Reads the first LWPOLYLINE of a text into the buffer's start. 13, 3, 1, 8.
-pub fn dxf_outline(text: &[u8], out: &mut [f64]) -> DxfAnswer
-    ensures { (spec.dxf_reply result ≡ spec.outline_to text.now (length out.old)) × (out.new ≡ spec.outline_buffer text.now out.old) }
+pub fn dxf_outline(text: &[u8], out: &mut [f64]) -> Result<DxfOutline, Refusal>
+    ensures { (reply result ≡ spec.outline_to text.now (length out.old)) × (out.new ≡ spec.outline_buffer text.now out.old) }
 {
     let mut numbers = [0.0; OUTLINE_NUMBERS];
     match read(text, &mut numbers) {
-        StepAnswer::Given(s) => finish_read(s, &numbers, out),
-        StepAnswer::Refused(k) => DxfAnswer::Refused(k),
+        Ok(s) => finish_read(s, &numbers, out),
+        Err(k) => Err(k),
     }
 }

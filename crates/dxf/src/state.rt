@@ -5,9 +5,9 @@ ghost use Rattle.plane.specs.Range.{most_vertices};
 ghost use Rattle.dxf.specs.Entity as entity;
 ghost use Rattle.dxf.specs.State as spec;
 
-use numeral::{NumberAnswer, WholeAnswer, number, whole};
+use numeral::{number, whole};
 use plane::MOST_VERTICES;
-use real::BAD_TEXT;
+use real::Refusal;
 
 // The numbers of the largest outline.
 pub const OUTLINE_NUMBERS: usize = 3 * MOST_VERTICES;
@@ -23,49 +23,43 @@ pub struct State {
     pub vertices: usize,
 }
 
-#[derive(Clone, Copy)]
-pub enum StepAnswer {
-    Given(State),
-    Refused(u8),
-}
-
-fn on_count(s: State, text: &[u8]) -> StepAnswer
+fn on_count(s: State, text: &[u8]) -> Result<State, Refusal>
     ensures { (a : List Float) (m : entity.Seen) → spec.Holds s a m → spec.Steps s (entity.count_step m text.now) result a }
 {
     match whole(text) {
-        WholeAnswer::Given(n) => {
+        Ok(n) => {
             let mut t = s;
             t.count = n;
-            StepAnswer::Given(t)
+            Ok(t)
         }
-        WholeAnswer::Refused(k) => StepAnswer::Refused(k),
+        Err(k) => Err(k),
     }
 }
 
-fn on_closed(s: State, text: &[u8]) -> StepAnswer
+fn on_closed(s: State, text: &[u8]) -> Result<State, Refusal>
     ensures { (a : List Float) (m : entity.Seen) → spec.Holds s a m → spec.Steps s (entity.closed_step m text.now) result a }
 {
     match whole(text) {
-        WholeAnswer::Given(n) => {
+        Ok(n) => {
             let mut t = s;
             t.closed = n % 2 == 1;
-            StepAnswer::Given(t)
+            Ok(t)
         }
-        WholeAnswer::Refused(k) => StepAnswer::Refused(k),
+        Err(k) => Err(k),
     }
 }
 
-fn on_x(s: State, text: &[u8]) -> StepAnswer
+fn on_x(s: State, text: &[u8]) -> Result<State, Refusal>
     ensures { (a : List Float) (m : entity.Seen) → spec.Holds s a m → spec.Steps s (entity.x_step m text.now) result a }
 {
     match number(text) {
-        NumberAnswer::Given(x) => {
+        Ok(x) => {
             let mut t = s;
             t.waits = true;
             t.x = x;
-            StepAnswer::Given(t)
+            Ok(t)
         }
-        NumberAnswer::Refused(k) => StepAnswer::Refused(k),
+        Err(k) => Err(k),
     }
 }
 
@@ -100,41 +94,41 @@ fn put_bulge(out: &mut [f64; OUTLINE_NUMBERS], n: usize, z: f64)
     }
 }
 
-fn on_y(s: State, text: &[u8], out: &mut [f64; OUTLINE_NUMBERS]) -> StepAnswer
+fn on_y(s: State, text: &[u8], out: &mut [f64; OUTLINE_NUMBERS]) -> Result<State, Refusal>
     requires { s.vertices < spec.uncounted }
     ensures { (m : entity.Seen) → spec.Holds s out.old m → spec.Steps s (entity.y_step m s.x text.now) result out.new }
 {
     let n = s.vertices;
     match number(text) {
-        NumberAnswer::Given(y) => {
+        Ok(y) => {
             put_vertex(out, n, s.x, y);
             let mut t = s;
             t.waits = false;
             t.vertices = n + 1;
-            StepAnswer::Given(t)
+            Ok(t)
         }
-        NumberAnswer::Refused(k) => StepAnswer::Refused(k),
+        Err(k) => Err(k),
     }
 }
 
-fn on_bulge(s: State, text: &[u8], out: &mut [f64; OUTLINE_NUMBERS]) -> StepAnswer
+fn on_bulge(s: State, text: &[u8], out: &mut [f64; OUTLINE_NUMBERS]) -> Result<State, Refusal>
     ensures { (m : entity.Seen) → spec.Holds s out.old m → spec.Steps s (entity.bulge_step m text.now) result out.new }
 {
     let n = s.vertices;
     if n < 1 {
-        return StepAnswer::Refused(BAD_TEXT);
+        return Err(Refusal::BadText);
     }
     match number(text) {
-        NumberAnswer::Given(z) => {
+        Ok(z) => {
             put_bulge(out, n, z);
-            StepAnswer::Given(s)
+            Ok(s)
         }
-        NumberAnswer::Refused(k) => StepAnswer::Refused(k),
+        Err(k) => Err(k),
     }
 }
 
 // A code with its value.
-pub(crate) fn step(s: State, code: u64, text: &[u8], out: &mut [f64; OUTLINE_NUMBERS]) -> StepAnswer
+pub(crate) fn step(s: State, code: u64, text: &[u8], out: &mut [f64; OUTLINE_NUMBERS]) -> Result<State, Refusal>
     requires { s.vertices < spec.uncounted }
     ensures { (m : entity.Seen) → spec.Holds s out.old m → spec.Steps s (entity.step_of m code text.now) result out.new }
 {
@@ -143,7 +137,7 @@ pub(crate) fn step(s: State, code: u64, text: &[u8], out: &mut [f64; OUTLINE_NUM
         if code == 20 {
             return on_y(s, text, out);
         }
-        return StepAnswer::Refused(BAD_TEXT);
+        return Err(Refusal::BadText);
     }
     if code == 90 {
         return on_count(s, text);
@@ -155,10 +149,10 @@ pub(crate) fn step(s: State, code: u64, text: &[u8], out: &mut [f64; OUTLINE_NUM
         return on_x(s, text);
     }
     if code == 20 {
-        return StepAnswer::Refused(BAD_TEXT);
+        return Err(Refusal::BadText);
     }
     if code == 42 {
         return on_bulge(s, text, out);
     }
-    StepAnswer::Given(s)
+    Ok(s)
 }

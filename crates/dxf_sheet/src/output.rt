@@ -6,10 +6,9 @@ ghost use Rattle.dxf.specs.Outline.{outline_of};
 ghost use Rattle.job.specs.Lines.{refused_line};
 ghost use Rattle.dxf_sheet.specs.Drawing.{drawing_sheet};
 
-use dxf::{DxfAnswer, OUTLINE_NUMBERS, dxf_outline};
+use dxf::{OUTLINE_NUMBERS, dxf_outline};
 use job::{PART_BYTES, refused_sheet};
 use outline_sheet::{OUTLINE_SHEET_BYTES, outline_sheet};
-use record::BytesAnswer;
 use std::io::Write;
 
 // Hands on the sheet of a drawing; false where the output takes no more.
@@ -48,8 +47,8 @@ fn write_outline<W: Write, E: Write>(
     let mut bytes = [0u8; OUTLINE_SHEET_BYTES];
     let answer = outline_sheet(outline, closed, &mut bytes);
     match answer {
-        BytesAnswer::Refused(number) => refuse(said, drawing, number),
-        BytesAnswer::Given(n) => hand_sheet(out, drawing, &bytes, n),
+        Err(number) => refuse(said, drawing, number),
+        Ok(n) => hand_sheet(out, drawing, &bytes, n),
     }
 }
 
@@ -58,8 +57,8 @@ pub(crate) fn write_drawing<W: Write, E: Write>(out: &mut W, said: &mut E, drawi
     let mut numbers = [0.0f64; OUTLINE_NUMBERS];
     let answer = dxf_outline(drawing, &mut numbers);
     match answer {
-        DxfAnswer::Refused(number) => refuse(said, drawing, number),
-        DxfAnswer::Given(outline) => {
+        Err(number) => refuse(said, drawing, number),
+        Ok(outline) => {
             let n = 3 * outline.vertices;
             write_outline(out, said, drawing, &numbers[..n], outline.closed)
         }

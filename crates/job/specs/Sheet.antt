@@ -13,8 +13,6 @@ use Rattle.record.specs.Record.{fields_ok, record_value}
 use Rattle.job.specs.Header.{most_views, header_size, vertex_size, header_value, header_good}
 use Rattle.job.specs.Outline.{vertex_in_of, numbers_in}
 use Rattle.job.specs.declared.sheet.Opened.{Opened}
-use Rattle.job.specs.declared.sheet.OpenAnswer.{OpenAnswer}
-use Rattle.job.specs.declared.sheet.OpenAnswer.TheVariants as open-case
 
 -- V and W, the outline, and the bytes of record k
 abbrev pub vertices : List ℕ → ℕ
@@ -51,10 +49,6 @@ abbrev pub outline_numbers : ℕ
 outline_numbers = 3 * most_vertices
 
 -- ---- opening a sheet: how many numbers the outline has, and how many parts the text: the outline's line, the box line, and one for each view
-
-abbrev pub open_reply : OpenAnswer → Reply Opened
-open_reply (open-case.Given o) = given o
-open_reply (open-case.Refused n) = refused n
 
 unfoldable pub open_of : List ℕ → Reply Opened
 open_of b = sheet_of b (given (record { numbers = 3 * vertices b; parts = views b + 2 }))

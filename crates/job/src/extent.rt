@@ -7,7 +7,7 @@ ghost use Rattle.job.specs.Extent as spec;
 
 use crate::outline::vertex_in;
 use plane::{LINE_LIMIT, PlineVertex};
-use seg::{Bounds, BoxAnswer, seg_bounding_box};
+use seg::{Bounds, seg_bounding_box};
 
 fn lesser(edge: f64, other: f64) -> f64
     ensures { result ≡ spec.lesser edge other }
@@ -40,8 +40,8 @@ fn segment_box(v1: PlineVertex, v2: PlineVertex) -> Bounds
 {
     let answer = seg_bounding_box(v1, v2, LINE_LIMIT);
     match answer {
-        BoxAnswer::Given(b) => b,
-        BoxAnswer::Refused(_) => Bounds {
+        Ok(b) => b,
+        Err(_) => Bounds {
             min_x: v1.x,
             min_y: v1.y,
             max_x: v1.x,

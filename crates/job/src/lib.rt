@@ -12,7 +12,5 @@ mod sheet;
 mod size;
 
 pub use part::{refused_sheet, sheet_part};
-pub use sheet::{OpenAnswer, Opened, open_sheet};
-pub use size::{
-    HEADER_BYTES, LIST_NUMBERS, OUTLINE_NUMBERS, PART_BYTES, SHEET_BYTES, VERTEX_BYTES,
-};
+pub use sheet::{Opened, open_sheet};
+pub use size::{HEADER_BYTES, LIST_NUMBERS, OUTLINE_NUMBERS, PART_BYTES, SHEET_BYTES, VERTEX_BYTES};

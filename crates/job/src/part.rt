@@ -20,7 +20,7 @@ use crate::row::put_rows;
 use crate::size::{LIST_NUMBERS, PART_BYTES};
 use plane::LINE_LIMIT;
 use record::record_of;
-use view::{Mark, PlineViewData, ValidationAnswer, ViewDataValidation};
+use view::{Mark, PlineViewData, ViewDataValidation};
 
 // The last segment of n vertices: the closing one only if closed.
 fn last_segment(closed: bool, n: usize) -> usize
@@ -110,8 +110,8 @@ fn put_view(
 {
     let answer = d.validate_for_source(outline, LINE_LIMIT);
     match answer {
-        ValidationAnswer::Refused(number) => put_refused_view(out, k, number as usize),
-        ValidationAnswer::Given(judged) => {
+        Err(number) => put_refused_view(out, k, number as usize),
+        Ok(judged) => {
             let verdict = judged.verdict;
             put_marked(outline, d, k, verdict, closed, list, out)
         }

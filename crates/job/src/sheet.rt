@@ -1,5 +1,6 @@
 // A sheet as a whole: its check, and its outline in a lent buffer.
 ghost use Rattle.std.specs.Prelude.{◌≡◌, length};
+ghost use Rattle.real.specs.Reply.{reply};
 ghost use Rattle.job.specs.Header.{Headed};
 ghost use Rattle.job.specs.Sheet as spec;
 
@@ -7,7 +8,7 @@ use crate::header::{Header, header_is_sound, header_of};
 use crate::outline::{decode, vertices_are_sound};
 use crate::records::records_are_sound;
 use crate::size::OUTLINE_NUMBERS;
-use real::{BAD_NUMBER, BAD_RECORD, BAD_SHEET};
+use real::Refusal;
 
 // How many numbers the outline has, and how many parts the text.
 #[derive(Clone, Copy)]
@@ -16,36 +17,30 @@ pub struct Opened {
     pub parts: usize,
 }
 
-#[derive(Clone, Copy)]
-pub enum OpenAnswer {
-    Given(Opened),
-    Refused(u8),
-}
-
 // Checks what follows the header h, and decodes the outline.
-fn open_after(bytes: &[u8], h: Header, outline: &mut [f64]) -> OpenAnswer
+fn open_after(bytes: &[u8], h: Header, outline: &mut [f64]) -> Result<Opened, Refusal>
     requires { (Headed bytes.now h) × (length outline.old ≡ spec.outline_numbers) }
-    ensures { (spec.open_reply result ≡ spec.open_of bytes.now) × (outline.new ≡ spec.open_buffer bytes.now outline.old) }
+    ensures { (reply result ≡ spec.open_of bytes.now) × (outline.new ≡ spec.open_buffer bytes.now outline.old) }
 {
     if !records_are_sound(bytes, h) {
-        return OpenAnswer::Refused(BAD_RECORD);
+        return Err(Refusal::BadRecord);
     }
     if !vertices_are_sound(bytes, h.vertices) {
-        return OpenAnswer::Refused(BAD_NUMBER);
+        return Err(Refusal::BadNumber);
     }
     decode(bytes, 3 * h.vertices, outline);
-    OpenAnswer::Given(Opened {
+    Ok(Opened {
         numbers: 3 * h.vertices,
         parts: h.views + 2,
     })
 }
 
 // Checks a sheet and decodes its outline into the buffer's start.
-pub fn open_sheet(bytes: &[u8], outline: &mut [f64; OUTLINE_NUMBERS]) -> OpenAnswer
-    ensures { (spec.open_reply result ≡ spec.open_of bytes.now) × (outline.new ≡ spec.open_buffer bytes.now outline.old) }
+pub fn open_sheet(bytes: &[u8], outline: &mut [f64; OUTLINE_NUMBERS]) -> Result<Opened, Refusal>
+    ensures { (reply result ≡ spec.open_of bytes.now) × (outline.new ≡ spec.open_buffer bytes.now outline.old) }
 {
     if !header_is_sound(bytes) {
-        return OpenAnswer::Refused(BAD_SHEET);
+        return Err(Refusal::BadSheet);
     }
     open_after(bytes, header_of(bytes), outline)
 }

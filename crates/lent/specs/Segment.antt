@@ -5,12 +5,6 @@ use Rattle.real.specs.Refusal.{bad_outline}
 use Rattle.real.specs.Reply.{Reply, refused, given, check}
 use Rattle.plane.specs.Vertex.{vertex_at_of}
 use Rattle.plane.specs.declared.pline_vertex.PlineVertex.{PlineVertex}
-use Rattle.lent.specs.declared.segment.SegmentAnswer.{SegmentAnswer}
-use Rattle.lent.specs.declared.segment.SegmentAnswer.TheVariants as segment
-
-abbrev pub segment_reply : SegmentAnswer → Reply (PlineVertex × PlineVertex)
-segment_reply (segment.Given v1 v2) = given (v1, v2)
-segment_reply (segment.Refused n) = refused n
 
 -- its two vertices; 3 for other than 6 numbers
 unfoldable pub segment_from : List Float → Reply (PlineVertex × PlineVertex)

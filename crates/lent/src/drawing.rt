@@ -5,8 +5,8 @@ ghost use Rattle.lent.specs.Lent.{both, BothAnswered};
 ghost use Rattle.lent.specs.Values.{drawn_values, unplaced};
 
 use crate::write::write_words;
-use dxf::{DxfAnswer, dxf_outline};
-use real::NO_ROOM;
+use dxf::dxf_outline;
+use real::Refusal;
 
 fn closed_word(closed: bool) -> u64
     ensures { result ≡ cond closed 1 0 }
@@ -20,8 +20,8 @@ fn refuse_drawing(text: &[u8]) -> u8
 {
     let mut apart = [0.0; 1];
     match dxf_outline(text, &mut apart) {
-        DxfAnswer::Given(_) => NO_ROOM,
-        DxfAnswer::Refused(k) => k,
+        Ok(_) => Refusal::NoRoom,
+        Err(k) => k,
     }
 }
 
@@ -32,10 +32,10 @@ pub fn give_drawing(text: &[u8], out: &mut [f64], whole: &mut [u64]) -> u8
         return refuse_drawing(text);
     }
     match dxf_outline(text, out) {
-        DxfAnswer::Given(d) => {
+        Ok(d) => {
             let words = [d.vertices as u64, closed_word(d.closed)];
             write_words(&words, whole)
         }
-        DxfAnswer::Refused(k) => k,
+        Err(k) => k,
     }
 }

@@ -9,10 +9,7 @@ mod verdict;
 mod write;
 
 pub use drawing::give_drawing;
-pub use give::{
-    give_box, give_circle, give_count, give_flag, give_mark, give_point, give_record, give_root,
-    give_split, give_vertex,
-};
+pub use give::{give_box, give_circle, give_count, give_flag, give_mark, give_point, give_record, give_root, give_split, give_vertex};
 pub use list::give_list;
-pub use segment::{SegmentAnswer, segment_from_slice};
+pub use segment::segment_from_slice;
 pub use verdict::give_verdict;

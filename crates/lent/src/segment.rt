@@ -1,21 +1,16 @@
 // A segment from 6 numbers: x, y and bulge of its two vertices.
 ghost use Rattle.std.specs.Prelude.{◌≡◌};
+ghost use Rattle.real.specs.Reply.{reply};
 ghost use Rattle.lent.specs.Segment as spec;
 
 use plane::PlineVertex;
-use real::BAD_OUTLINE;
+use real::Refusal;
 
-#[derive(Clone, Copy)]
-pub enum SegmentAnswer {
-    Given(PlineVertex, PlineVertex),
-    Refused(u8),
-}
-
-pub fn segment_from_slice(s: &[f64]) -> SegmentAnswer
-    ensures { spec.segment_reply result ≡ spec.segment_from s.now }
+pub fn segment_from_slice(s: &[f64]) -> Result<(PlineVertex, PlineVertex), Refusal>
+    ensures { reply result ≡ spec.segment_from s.now }
 {
     if s.len() != 6 {
-        return SegmentAnswer::Refused(BAD_OUTLINE);
+        return Err(Refusal::BadOutline);
     }
     let v1 = PlineVertex {
         x: s[0],
@@ -27,5 +22,5 @@ pub fn segment_from_slice(s: &[f64]) -> SegmentAnswer
         y: s[4],
         bulge: s[5],
     };
-    SegmentAnswer::Given(v1, v2)
+    Ok(v1, v2)
 }

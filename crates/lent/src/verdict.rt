@@ -7,8 +7,8 @@ ghost use Rattle.lent.specs.Lent.{both, BothAnswered};
 ghost use Rattle.lent.specs.Values.{verdict_words_of, verdict_numbers_of, verdict_values};
 
 use crate::write::{write, write_words};
-use real::NO_ROOM;
-use view::{Judgement, ValidationAnswer, ViewDataValidation};
+use real::Refusal;
+use view::{Judgement, ViewDataValidation};
 
 fn verdict_words(v: ViewDataValidation, roots: u64) -> [u64; 4]
     ensures { result ≡ verdict_words_of (tally (verdict_of v) roots) }
@@ -63,7 +63,7 @@ fn put_verdict(judged: Judgement, whole: &mut [u64], out: &mut [f64]) -> u8
 {
     let v = judged.verdict;
     if whole.len() < 4 {
-        return NO_ROOM;
+        return Refusal::NoRoom;
     }
     let numbers = verdict_numbers(v);
     let code = write(&numbers, out);
@@ -74,11 +74,11 @@ fn put_verdict(judged: Judgement, whole: &mut [u64], out: &mut [f64]) -> u8
     write_words(&words, whole)
 }
 
-pub fn give_verdict(answer: ValidationAnswer, whole: &mut [u64], out: &mut [f64]) -> u8
+pub fn give_verdict(answer: Result<Judgement, Refusal>, whole: &mut [u64], out: &mut [f64]) -> u8
     ensures { BothAnswered verdict_values (validation_reply answer) (both whole.old out.old) result (both whole.new out.new) }
 {
     match answer {
-        ValidationAnswer::Given(judged) => put_verdict(judged, whole, out),
-        ValidationAnswer::Refused(n) => n,
+        Ok(judged) => put_verdict(judged, whole, out),
+        Err(n) => n,
     }
 }

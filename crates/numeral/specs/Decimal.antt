@@ -6,8 +6,6 @@ use Rattle.real.specs.Refusal.{bad_text}
 use Rattle.real.specs.Reply.{Reply, refused, given, check}
 use Rattle.numeral.specs.Closest.{Closest}
 use Rattle.numeral.specs.Digits.{all_digits, value_of}
-use Rattle.numeral.specs.declared.decimal.NumberAnswer.{NumberAnswer}
-use Rattle.numeral.specs.declared.decimal.NumberAnswer.TheVariants as number-case
 
 -- ---- the sign, and what stands before the first point and after it
 
@@ -48,10 +46,6 @@ abbrev pub denominator : List ℕ → ℕ
 denominator t = 10 ^ length (places t)
 
 -- ---- the answer: the fraction by the kit's own rounding, or "13 for .. a bad number"
-
-abbrev pub number_reply : NumberAnswer → Reply Float
-number_reply (number-case.Given x) = given x
-number_reply (number-case.Refused k) = refused k
 
 unfoldable pub number_of : List ℕ → Reply Float
 number_of t = check (is_number t) bad_text (given (round binary64 (is_minus t) (numerator t) (denominator t)))

@@ -2,8 +2,6 @@
 use Rattle.std.specs.Prelude.{ℕ, ◌+◌, ◌-◌, ◌*◌, ◌%◌, Bool, true, cond, ◌&&◌, List, [], ◌∷◌, length, leb, ltb}
 use Rattle.real.specs.Refusal.{bad_text}
 use Rattle.real.specs.Reply.{Reply, refused, given, check}
-use Rattle.numeral.specs.declared.digits.WholeAnswer.{WholeAnswer}
-use Rattle.numeral.specs.declared.digits.WholeAnswer.TheVariants as whole-case
 
 unfoldable pub is_digit_of : ℕ → Bool
 is_digit_of b = leb 48 b && leb b 57
@@ -31,10 +29,6 @@ cap = 10000000000000000000
 
 unfoldable pub kept : ℕ → ℕ
 kept n = cond (ltb n cap) n (cap + n % 2)
-
-abbrev pub whole_reply : WholeAnswer → Reply ℕ
-whole_reply (whole-case.Given n) = given n
-whole_reply (whole-case.Refused k) = refused k
 
 unfoldable pub digits_of : ℕ → List ℕ → Reply ℕ
 digits_of n t = check (all_digits t) bad_text (given (kept (value_from n t)))

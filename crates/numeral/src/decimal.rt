@@ -2,10 +2,11 @@
 ghost use Rattle.std.specs.Prelude.{◌≡◌, false, cond, ◌+◌, ◌^◌, ◌≤◌, ◌<◌, length, take, drop};
 ghost use Rattle.std.specs.Float.{binary64};
 ghost use Rattle.std.specs.Float.Ieee.{round, neg};
+ghost use Rattle.real.specs.Reply.{reply};
 ghost use Rattle.numeral.specs.Decimal as spec;
 
-use crate::digits::{WholeAnswer, digits_on};
-use real::BAD_TEXT;
+use crate::digits::digits_on;
+use real::Refusal;
 
 // The most digits of a number.
 const MOST_DIGITS: usize = 15;
@@ -75,25 +76,19 @@ fn signed(x: f64, minus: bool) -> f64
     if minus { -x } else { x }
 }
 
-#[derive(Clone, Copy)]
-pub enum NumberAnswer {
-    Given(f64),
-    Refused(u8),
-}
-
 // The number of what stands before and after the point.
-fn decimal(whole: &[u8], rest: &[u8], minus: bool) -> NumberAnswer
+fn decimal(whole: &[u8], rest: &[u8], minus: bool) -> Result<f64, Refusal>
     requires { length whole.now + length rest.now ≤ 15 }
-    ensures { spec.number_reply result ≡ spec.decimal_of minus whole.now rest.now }
+    ensures { reply result ≡ spec.decimal_of minus whole.now rest.now }
 {
     let front = digits_on(whole, 0);
     match front {
-        WholeAnswer::Refused(k) => NumberAnswer::Refused(k),
-        WholeAnswer::Given(n) => {
+        Err(k) => Err(k),
+        Ok(n) => {
             let all = digits_on(rest, n);
             match all {
-                WholeAnswer::Refused(k) => NumberAnswer::Refused(k),
-                WholeAnswer::Given(d) => NumberAnswer::Given(signed(
+                Err(k) => Err(k),
+                Ok(d) => Ok(signed(
                     quotient(d, power(rest.len())),
                     minus,
                 )),
@@ -103,34 +98,34 @@ fn decimal(whole: &[u8], rest: &[u8], minus: bool) -> NumberAnswer
 }
 
 // The number of a text without its sign.
-fn unsigned(text: &[u8], minus: bool) -> NumberAnswer
-    ensures { spec.number_reply result ≡ spec.unsigned_of minus text.now }
+fn unsigned(text: &[u8], minus: bool) -> Result<f64, Refusal>
+    ensures { reply result ≡ spec.unsigned_of minus text.now }
 {
     let p = point(text);
     let whole = &text[..p];
     let rest = after(text, p);
     if whole.len() > MOST_DIGITS {
-        return NumberAnswer::Refused(BAD_TEXT);
+        return Err(Refusal::BadText);
     }
     if rest.len() > MOST_DIGITS {
-        return NumberAnswer::Refused(BAD_TEXT);
+        return Err(Refusal::BadText);
     }
     let digits = whole.len() + rest.len();
     if digits < 1 {
-        return NumberAnswer::Refused(BAD_TEXT);
+        return Err(Refusal::BadText);
     }
     if digits > MOST_DIGITS {
-        return NumberAnswer::Refused(BAD_TEXT);
+        return Err(Refusal::BadText);
     }
     decimal(whole, rest, minus)
 }
 
 // The f64 nearest to the number that a text stands for.
-pub fn number(text: &[u8]) -> NumberAnswer
-    ensures { (spec.number_reply result ≡ spec.number_of text.now) × spec.IsNumber text.now (spec.number_reply result) }
+pub fn number(text: &[u8]) -> Result<f64, Refusal>
+    ensures { (reply result ≡ spec.number_of text.now) × spec.IsNumber text.now (reply result) }
 {
     if text.len() < 1 {
-        return NumberAnswer::Refused(BAD_TEXT);
+        return Err(Refusal::BadText);
     }
     if text[0] == b'-' {
         return unsigned(&text[1..], true);

@@ -1,17 +1,12 @@
 // Digits, and the number that they stand for.
 ghost use Rattle.std.specs.Prelude.{◌≡◌, ◌+◌, ◌-◌, ◌*◌, ◌≤◌, ◌<◌};
+ghost use Rattle.real.specs.Reply.{reply};
 ghost use Rattle.numeral.specs.Digits as spec;
 
-use real::BAD_TEXT;
+use real::Refusal;
 
 // A number from here on is kept as this one or the next, whichever has its parity.
 const CAP: u64 = 10_000_000_000_000_000_000;
-
-#[derive(Clone, Copy)]
-pub enum WholeAnswer {
-    Given(u64),
-    Refused(u8),
-}
 
 fn wide(x: u8) -> u64
     ensures { (result ≡ x) × (result < 256) }
@@ -38,29 +33,29 @@ fn written_on(v: u64, d: u64) -> u64
 }
 
 // The number of some digits, written on after v.
-pub(crate) fn digits_on(text: &[u8], v: u64) -> WholeAnswer
+pub(crate) fn digits_on(text: &[u8], v: u64) -> Result<u64, Refusal>
     requires { v < spec.cap }
-    ensures { spec.whole_reply result ≡ spec.digits_of v text.now }
+    ensures { reply result ≡ spec.digits_of v text.now }
 {
     let mut n = v;
     let mut i = 0;
     while i < text.len() {
         let b = text[i];
         if !is_digit(b) {
-            return WholeAnswer::Refused(BAD_TEXT);
+            return Err(Refusal::BadText);
         }
         n = written_on(n, wide(b) - 48);
         i += 1;
     }
-    WholeAnswer::Given(n)
+    Ok(n)
 }
 
 // The number of a text of digits, one at least.
-pub fn whole(text: &[u8]) -> WholeAnswer
-    ensures { spec.whole_reply result ≡ spec.whole_of text.now }
+pub fn whole(text: &[u8]) -> Result<u64, Refusal>
+    ensures { reply result ≡ spec.whole_of text.now }
 {
     if text.len() < 1 {
-        return WholeAnswer::Refused(BAD_TEXT);
+        return Err(Refusal::BadText);
     }
     digits_on(text, 0)
 }

@@ -4,5 +4,5 @@
 mod decimal;
 mod digits;
 
-pub use decimal::{NumberAnswer, number};
-pub use digits::{WholeAnswer, whole};
+pub use decimal::number;
+pub use digits::whole;

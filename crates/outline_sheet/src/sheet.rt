@@ -1,16 +1,15 @@
 // A sheet as a whole.
 ghost use Rattle.std.specs.Prelude.{◌≡◌, ◌/◌, ◌≤◌, length};
+ghost use Rattle.real.specs.Reply.{reply};
 ghost use Rattle.plane.specs.Range.{most_vertices};
 ghost use Rattle.text.specs.Wrote.{Piece};
-ghost use Rattle.record.specs.Record.{bytes_reply};
 ghost use Rattle.outline_sheet.specs.Sheet as spec;
 
 use crate::header::put_header;
 use crate::numbers::put_numbers;
 use job::{HEADER_BYTES, VERTEX_BYTES};
 use plane::{MOST_VERTICES, outline_is_whole};
-use real::{BAD_NUMBER, BAD_OUTLINE, NO_ROOM};
-use record::BytesAnswer;
+use real::Refusal;
 use view::vertices_in_range;
 
 // The bytes of the longest.
@@ -25,17 +24,17 @@ fn put_sheet(out: &mut [u8], outline: &[f64], closed: bool) -> usize
 }
 
 // Writes the sheet from the buffer's start, and answers how many bytes it has. 3, 1, 8.
-pub fn outline_sheet(outline: &[f64], closed: bool, out: &mut [u8]) -> BytesAnswer
-    ensures { (bytes_reply result ≡ spec.sheet_to outline.now (length out.old)) × (out.new ≡ spec.sheet_buffer outline.now closed out.old) }
+pub fn outline_sheet(outline: &[f64], closed: bool, out: &mut [u8]) -> Result<usize, Refusal>
+    ensures { (reply result ≡ spec.sheet_to outline.now (length out.old)) × (out.new ≡ spec.sheet_buffer outline.now closed out.old) }
 {
     if !outline_is_whole(outline) {
-        return BytesAnswer::Refused(BAD_OUTLINE);
+        return Err(Refusal::BadOutline);
     }
     if !vertices_in_range(outline) {
-        return BytesAnswer::Refused(BAD_NUMBER);
+        return Err(Refusal::BadNumber);
     }
     if HEADER_BYTES + 8 * outline.len() > out.len() {
-        return BytesAnswer::Refused(NO_ROOM);
+        return Err(Refusal::NoRoom);
     }
-    BytesAnswer::Given(put_sheet(out, outline, closed))
+    Ok(put_sheet(out, outline, closed))
 }

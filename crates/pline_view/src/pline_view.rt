@@ -1,11 +1,10 @@
 // The crate's `PlineView`: a record with the outline that it is over.
 ghost use Rattle.std.specs.Prelude.{◌≡◌};
+ghost use Rattle.real.specs.Reply.{reply};
 ghost use Rattle.plane.specs.Grade.{double};
-ghost use Rattle.plane.specs.From.{vertex_reply};
-ghost use Rattle.view.specs.Answers.{count_reply, get_vertex_of, vertex_count_of};
+ghost use Rattle.view.specs.Answers.{get_vertex_of, vertex_count_of};
 
-use plane::VertexAnswer;
-use view::{CountAnswer, PlineViewData};
+use view::PlineViewData;
 
 #[derive(Clone, Copy)]
 pub struct PlineView<'a> {
@@ -22,23 +21,23 @@ impl<'a> PlineView<'a> {
     }
 
     // The vertex at a position of the view.
-    pub fn get(self, index: usize) -> VertexAnswer
-        ensures { vertex_reply result ≡ get_vertex_of double self.entry.source.now self.entry.data index }
+    pub fn get(self, index: usize) -> Result<PlineVertex, Refusal>
+        ensures { reply result ≡ get_vertex_of double self.entry.source.now self.entry.data index }
     {
         self.data.get_vertex(self.source, index)
     }
 
     // How many vertices the view has.
-    pub fn vertex_count(self) -> CountAnswer
-        ensures { count_reply result ≡ vertex_count_of double self.entry.source.now self.entry.data }
+    pub fn vertex_count(self) -> Result<usize, Refusal>
+        ensures { reply result ≡ vertex_count_of double self.entry.source.now self.entry.data }
     {
         self.data.vertex_count(self.source)
     }
 }
 
 // The vertex at a position, by a `PlineView` that is put together for it.
-pub fn vertex_through_view(source: &[f64], data: PlineViewData, index: usize) -> VertexAnswer
-    ensures { vertex_reply result ≡ get_vertex_of double source.now «data» index }
+pub fn vertex_through_view(source: &[f64], data: PlineViewData, index: usize) -> Result<PlineVertex, Refusal>
+    ensures { reply result ≡ get_vertex_of double source.now «data» index }
 {
     PlineView::new(source, data).get(index)
 }

@@ -1,40 +1,68 @@
-// The refusal numbers of documents 01 and 02, by name.
+// The refusals of documents 01 and 02, by name.
+ghost use Rattle.std.specs.Prelude.{◌≡◌, Some};
+ghost use Rattle.real.specs.Refusal.{number_of, refused_words};
 
-// A number is NaN, infinite or out of range.
-pub const BAD_NUMBER: u8 = 1;
+use std::error::Error;
+use std::fmt;
 
-// A tolerance or a line limit is out of range or NaN.
-pub const BAD_TOLERANCE: u8 = 2;
+#[derive(Clone, Copy, Debug, PartialEq, Eq, Hash)]
+pub enum Refusal {
+    // A number is NaN, infinite or out of range.
+    BadNumber,
+    // A tolerance or a line limit is out of range or NaN.
+    BadTolerance,
+    // The outline is not whole vertices, or too many, or too few for a view; a vertex is not three numbers.
+    BadOutline,
+    // A start or intersect index, or a position of a view, is not below its count.
+    BadIndex,
+    // An offset above the vertex count, or a traverse count of 0.
+    BadOffset,
+    // Radius and centre are asked of a line, or of an arc whose ends are fuzzily equal.
+    NoArc,
+    // Reversal or trim with offset 0 and bulges of unequal bits.
+    UnevenBulges,
+    // A lent buffer is shorter than what is to be written.
+    NoRoom,
+    // A trim without 0 <= i < j <= offset + 1.
+    BadTrim,
+    // A new start on an open outline.
+    NotClosed,
+    // A sheet's length, version, count, offset or flag is wrong.
+    BadSheet,
+    // A sheet record's direction is not 0 or 1.
+    BadRecord,
+    // A drawing's text is not of the accepted form.
+    BadText,
+}
 
-// The outline is not whole vertices, or too many, or too few for a view; a vertex is not three numbers.
-pub const BAD_OUTLINE: u8 = 3;
+impl From<Refusal> for u8 {
+    ghost from_gives = { λ refusal n. n ≡ number_of refusal };
 
-// A start or intersect index, or a position of a view, is not below its count.
-pub const BAD_INDEX: u8 = 4;
+    fn from(refusal: Refusal) -> u8 {
+        match refusal {
+            Refusal::BadNumber => 1,
+            Refusal::BadTolerance => 2,
+            Refusal::BadOutline => 3,
+            Refusal::BadIndex => 4,
+            Refusal::BadOffset => 5,
+            Refusal::NoArc => 6,
+            Refusal::UnevenBulges => 7,
+            Refusal::NoRoom => 8,
+            Refusal::BadTrim => 9,
+            Refusal::NotClosed => 10,
+            Refusal::BadSheet => 11,
+            Refusal::BadRecord => 12,
+            Refusal::BadText => 13,
+        }
+    }
+}
 
-// An offset above the vertex count, or a traverse count of 0.
-pub const BAD_OFFSET: u8 = 5;
+impl fmt::Display for Refusal {
+    ghost output = { λ refusal. Some (refused_words refusal) };
 
-// Radius and centre are asked of a line, or of an arc whose ends are fuzzily equal.
-pub const NO_ARC: u8 = 6;
+    fn fmt<W: fmt::Write>(&self, f: &mut fmt::Formatter<W>) -> fmt::Result {
+        write!(f, "refused {}", u8::from(*self))
+    }
+}
 
-// Reversal or trim with offset 0 and bulges of unequal bits.
-pub const UNEVEN_BULGES: u8 = 7;
-
-// A lent buffer is shorter than what is to be written.
-pub const NO_ROOM: u8 = 8;
-
-// A trim without 0 <= i < j <= offset + 1.
-pub const BAD_TRIM: u8 = 9;
-
-// A new start on an open outline.
-pub const NOT_CLOSED: u8 = 10;
-
-// A sheet's length, version, count, offset or flag is wrong.
-pub const BAD_SHEET: u8 = 11;
-
-// A sheet record's direction is not 0 or 1.
-pub const BAD_RECORD: u8 = 12;
-
-// A drawing's text is not of the accepted form.
-pub const BAD_TEXT: u8 = 13;
+impl Error for Refusal {}

@@ -8,10 +8,6 @@ use Rattle.plane.specs.declared.pline_vertex.PlineVertex.{PlineVertex}
 use Rattle.view.specs.declared.view_data.PlineViewData.{PlineViewData}
 use Rattle.record.specs.Bytes.{le32, float_at, vertex_from, point_from, bytes4, float_bytes}
 use Rattle.record.specs.Layout.{start_at, offset_at, first_at, end_bulge_at, end_at, direction_at, cut_number_at, record_size, word_limit}
-use Rattle.record.specs.declared.record.RecordAnswer.{RecordAnswer}
-use Rattle.record.specs.declared.record.RecordAnswer.TheVariants as record-case
-use Rattle.record.specs.declared.record.BytesAnswer.{BytesAnswer}
-use Rattle.record.specs.declared.record.BytesAnswer.TheVariants as bytes-case
 
 -- ---- read
 
@@ -30,10 +26,6 @@ record_value b =
       inverted_direction = eqb (le32 b direction_at) 1;
       cut_number = le32 b cut_number_at;
     }
-
-abbrev pub record_reply : RecordAnswer → Reply PlineViewData
-record_reply (record-case.Given d) = given d
-record_reply (record-case.Refused n) = refused n
 
 -- the record that bytes alone are: refused 11 for another length, then 12
 unfoldable pub record_from : List ℕ → Reply PlineViewData
@@ -60,10 +52,6 @@ unfoldable pub record_bytes : PlineViewData → List ℕ
 record_bytes d =
     place_bytes d.start_index d.end_index_offset ++ vertex_bytes d.updated_start ++ float_bytes d.updated_end_bulge
     ++ point_bytes d.end_point ++ end_bytes d.inverted_direction d.cut_number
-
-abbrev pub bytes_reply : BytesAnswer → Reply ℕ
-bytes_reply (bytes-case.Given n) = given n
-bytes_reply (bytes-case.Refused n) = refused n
 
 -- into a lent buffer of m bytes: refused 5 or 4 for an offset or a start that is no u32, 8 for under 64 bytes, else the count
 unfoldable pub record_to : PlineViewData → ℕ → Reply ℕ

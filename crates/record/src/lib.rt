@@ -5,7 +5,4 @@ mod bytes;
 mod record;
 
 pub use bytes::{float_at, le16, le32, put_number};
-pub use record::{
-    BytesAnswer, RECORD_BYTES, RecordAnswer, record_from_bytes, record_is_sound, record_of,
-    record_to_bytes,
-};
+pub use record::{RECORD_BYTES, record_from_bytes, record_is_sound, record_of, record_to_bytes};

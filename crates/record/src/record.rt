@@ -1,12 +1,13 @@
 // A record: a view's 64 bytes of a sheet.
 ghost use Rattle.std.specs.Prelude.{◌≡◌, ◌+◌, ◌≤◌, length};
+ghost use Rattle.real.specs.Reply.{reply};
 ghost use Rattle.text.specs.Wrote.{Wrote};
 ghost use Rattle.record.specs.Layout.{record_size};
 ghost use Rattle.record.specs.Record as spec;
 
 use crate::bytes::{float_at, le32, put_pattern, put32};
 use plane::{PlineVertex, Vector2};
-use real::{BAD_INDEX, BAD_OFFSET, BAD_RECORD, BAD_SHEET, NO_ROOM};
+use real::Refusal;
 use view::PlineViewData;
 
 // Where a record's fields begin, and how many bytes it has.
@@ -58,23 +59,17 @@ pub fn record_of(bytes: &[u8]) -> PlineViewData
     }
 }
 
-#[derive(Clone, Copy)]
-pub enum RecordAnswer {
-    Given(PlineViewData),
-    Refused(u8),
-}
-
 // The record of 64 bytes.
-pub fn record_from_bytes(bytes: &[u8]) -> RecordAnswer
-    ensures { spec.record_reply result ≡ spec.record_from bytes.now }
+pub fn record_from_bytes(bytes: &[u8]) -> Result<PlineViewData, Refusal>
+    ensures { reply result ≡ spec.record_from bytes.now }
 {
     if bytes.len() != RECORD_BYTES {
-        return RecordAnswer::Refused(BAD_SHEET);
+        return Err(Refusal::BadSheet);
     }
     if !record_is_sound(bytes) {
-        return RecordAnswer::Refused(BAD_RECORD);
+        return Err(Refusal::BadRecord);
     }
-    RecordAnswer::Given(record_of(bytes))
+    Ok(record_of(bytes))
 }
 
 fn direction(inverted: bool) -> usize
@@ -131,26 +126,20 @@ fn put_record(out: &mut [u8], d: PlineViewData) -> usize
     put_end(out, e, d.inverted_direction, d.cut_number)
 }
 
-#[derive(Clone, Copy)]
-pub enum BytesAnswer {
-    Given(usize),
-    Refused(u8),
-}
-
 // Writes the 64 bytes of a record from the buffer's start, and answers how many. 5, 4, 8.
-pub fn record_to_bytes(d: PlineViewData, out: &mut [u8]) -> BytesAnswer
-    ensures { (spec.bytes_reply result ≡ spec.record_to d (length out.old)) × (out.new ≡ spec.record_buffer d out.old) }
+pub fn record_to_bytes(d: PlineViewData, out: &mut [u8]) -> Result<usize, Refusal>
+    ensures { (reply result ≡ spec.record_to d (length out.old)) × (out.new ≡ spec.record_buffer d out.old) }
 {
     let offset = d.end_index_offset;
     if offset >= WORD_LIMIT {
-        return BytesAnswer::Refused(BAD_OFFSET);
+        return Err(Refusal::BadOffset);
     }
     let start = d.start_index;
     if start >= WORD_LIMIT {
-        return BytesAnswer::Refused(BAD_INDEX);
+        return Err(Refusal::BadIndex);
     }
     if out.len() < RECORD_BYTES {
-        return BytesAnswer::Refused(NO_ROOM);
+        return Err(Refusal::NoRoom);
     }
-    BytesAnswer::Given(put_record(out, d))
+    Ok(put_record(out, d))
 }

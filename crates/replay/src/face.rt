@@ -1,11 +1,6 @@
 // The calls, with the arguments that follow their first slice.
 use crate::read::{bytes, low_byte, number, numbers, word};
-use bisquefern::{
-    bf_seg_arc_radius_and_center, bf_seg_bounding_box, bf_seg_closest_point,
-    bf_seg_distance_is_greater_than, bf_seg_midpoint, bf_seg_split_at_point, bf_seg_tangent_vector,
-    bf_sqrt, bf_vertex, bf_view_count, bf_view_create, bf_view_from_new_start, bf_view_get,
-    bf_view_list, bf_view_mark, bf_view_reverse, bf_view_trim, bf_view_validate,
-};
+use bisquefern::{bf_seg_arc_radius_and_center, bf_seg_bounding_box, bf_seg_closest_point, bf_seg_distance_is_greater_than, bf_seg_midpoint, bf_seg_split_at_point, bf_seg_tangent_vector, bf_sqrt, bf_vertex, bf_view_count, bf_view_create, bf_view_from_new_start, bf_view_get, bf_view_list, bf_view_mark, bf_view_reverse, bf_view_trim, bf_view_validate};
 
 // What a line says of a case that does not fit.
 const UNFIT: u8 = 255;

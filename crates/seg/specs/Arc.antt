@@ -12,12 +12,6 @@ use Rattle.plane.specs.Range.{limit_ok, seg_ok}
 use Rattle.plane.specs.declared.vector2.Vector2.{Vector2}
 use Rattle.plane.specs.declared.pline_vertex.PlineVertex.{PlineVertex}
 use Rattle.seg.specs.declared.arc.Circle.{Circle}
-use Rattle.seg.specs.declared.arc.ArcAnswer.{ArcAnswer}
-use Rattle.seg.specs.declared.arc.ArcAnswer.TheVariants as arc
-
-abbrev pub arc_reply : ArcAnswer → Reply Circle
-arc_reply (arc.Given c) = given c
-arc_reply (arc.Refused n) = refused n
 
 module _ (g : Grade) where
   infixl 6 ◌⊕◌ ◌⊖◌

@@ -14,12 +14,6 @@ use Rattle.seg.specs.Arc.{chord_of, circle_of}
 use Rattle.seg.specs.declared.arc.Circle.{Circle}
 use Rattle.seg.specs.declared.bounds.Bounds.{Bounds}
 use Rattle.seg.specs.declared.bounds.Crossings.{Crossings}
-use Rattle.seg.specs.declared.bounds.BoxAnswer.{BoxAnswer}
-use Rattle.seg.specs.declared.bounds.BoxAnswer.TheVariants as box
-
-abbrev pub box_reply : BoxAnswer → Reply Bounds
-box_reply (box.Given b) = given b
-box_reply (box.Refused n) = refused n
 
 -- least x, least y, greatest x, greatest y
 abbrev pub bounds : Float → Float → Float → Float → Bounds

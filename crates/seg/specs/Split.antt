@@ -12,12 +12,6 @@ use Rattle.plane.specs.declared.vector2.Vector2.{Vector2}
 use Rattle.plane.specs.declared.pline_vertex.PlineVertex.{PlineVertex}
 use Rattle.seg.specs.Arc.{chord_of}
 use Rattle.seg.specs.declared.split.SplitResult.{SplitResult}
-use Rattle.seg.specs.declared.split.SplitAnswer.{SplitAnswer}
-use Rattle.seg.specs.declared.split.SplitAnswer.TheVariants as split
-
-abbrev pub split_reply : SplitAnswer → Reply SplitResult
-split_reply (split.Given s) = given s
-split_reply (split.Refused n) = refused n
 
 -- the updated start at one place with one bulge, the split vertex at another with another
 abbrev pub split_at_of : Vector2 → Float → Vector2 → Float → SplitResult

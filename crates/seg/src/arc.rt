@@ -1,23 +1,18 @@
 // Radius and centre of an arc.
 ghost use Rattle.std.specs.Prelude.{◌≡◌};
+ghost use Rattle.real.specs.Reply.{reply};
 ghost use Rattle.plane.specs.Grade.{double};
 ghost use Rattle.plane.specs.Vec.{vnear_of};
 ghost use Rattle.plane.specs.Vertex.{pos_of};
-ghost use Rattle.seg.specs.Arc.{arc_reply, chord_of, inv_four_bulge_of, sweeps_over_of, radius_of, center_of, circle_of, seg_circle};
+ghost use Rattle.seg.specs.Arc.{chord_of, inv_four_bulge_of, sweeps_over_of, radius_of, center_of, circle_of, seg_circle};
 
 use plane::{FUZZ, PlineVertex, Vector2, limit_in_range, point_within_arc_sweep, seg_in_range};
-use real::{BAD_NUMBER, BAD_TOLERANCE, NO_ARC, magnitude};
+use real::{Refusal, magnitude};
 
 #[derive(Clone, Copy)]
 pub struct Circle {
     pub radius: f64,
     pub center: Vector2,
-}
-
-#[derive(Clone, Copy)]
-pub enum ArcAnswer {
-    Given(Circle),
-    Refused(u8),
 }
 
 pub fn chord(v1: PlineVertex, v2: PlineVertex) -> Vector2
@@ -74,20 +69,24 @@ pub fn arc_circle(v1: PlineVertex, v2: PlineVertex) -> Circle
     Circle { radius, center }
 }
 
-pub fn seg_arc_radius_and_center(v1: PlineVertex, v2: PlineVertex, limit: f64) -> ArcAnswer
-    ensures { arc_reply result ≡ seg_circle double limit v1 v2 }
+pub fn seg_arc_radius_and_center(
+    v1: PlineVertex,
+    v2: PlineVertex,
+    limit: f64,
+) -> Result<Circle, Refusal>
+    ensures { reply result ≡ seg_circle double limit v1 v2 }
 {
     if !seg_in_range(v1, v2) {
-        return ArcAnswer::Refused(BAD_NUMBER);
+        return Err(Refusal::BadNumber);
     }
     if !limit_in_range(limit) {
-        return ArcAnswer::Refused(BAD_TOLERANCE);
+        return Err(Refusal::BadTolerance);
     }
     if v1.bulge_is_zero(limit) {
-        return ArcAnswer::Refused(NO_ARC);
+        return Err(Refusal::NoArc);
     }
     if ends_meet(v1, v2, FUZZ) {
-        return ArcAnswer::Refused(NO_ARC);
+        return Err(Refusal::NoArc);
     }
-    ArcAnswer::Given(arc_circle(v1, v2))
+    Ok(arc_circle(v1, v2))
 }

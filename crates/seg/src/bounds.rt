@@ -1,12 +1,13 @@
 // The box of a segment.
 ghost use Rattle.std.specs.Prelude.{◌≡◌, cond};
+ghost use Rattle.real.specs.Reply.{reply};
 ghost use Rattle.plane.specs.Grade.{double};
 ghost use Rattle.plane.specs.Vertex.{pos_of};
-ghost use Rattle.seg.specs.Bounds.{box_reply, line_box_of, rises, falls, crossings_of, any_of, start_radius, end_radius, cross_box_of, arc_box_by, arc_box_of, box_of, seg_box};
+ghost use Rattle.seg.specs.Bounds.{line_box_of, rises, falls, crossings_of, any_of, start_radius, end_radius, cross_box_of, arc_box_by, arc_box_of, box_of, seg_box};
 
 use crate::arc::{Circle, arc_circle, chord, ends_meet};
 use plane::{FUZZ, PlineVertex, Vector2, limit_in_range, min_max, seg_in_range};
-use real::{BAD_NUMBER, BAD_TOLERANCE};
+use real::Refusal;
 
 #[derive(Clone, Copy)]
 pub struct Bounds {
@@ -14,12 +15,6 @@ pub struct Bounds {
     pub min_y: f64,
     pub max_x: f64,
     pub max_y: f64,
-}
-
-#[derive(Clone, Copy)]
-pub enum BoxAnswer {
-    Given(Bounds),
-    Refused(u8),
 }
 
 // The sides that an arc crosses between its ends.
@@ -142,14 +137,14 @@ fn true_box(v1: PlineVertex, v2: PlineVertex, limit: f64) -> Bounds
     arc_seg_bounding_box(v1, v2)
 }
 
-pub fn seg_bounding_box(v1: PlineVertex, v2: PlineVertex, limit: f64) -> BoxAnswer
-    ensures { box_reply result ≡ seg_box double limit v1 v2 }
+pub fn seg_bounding_box(v1: PlineVertex, v2: PlineVertex, limit: f64) -> Result<Bounds, Refusal>
+    ensures { reply result ≡ seg_box double limit v1 v2 }
 {
     if !seg_in_range(v1, v2) {
-        return BoxAnswer::Refused(BAD_NUMBER);
+        return Err(Refusal::BadNumber);
     }
     if !limit_in_range(limit) {
-        return BoxAnswer::Refused(BAD_TOLERANCE);
+        return Err(Refusal::BadTolerance);
     }
-    BoxAnswer::Given(true_box(v1, v2, limit))
+    Ok(true_box(v1, v2, limit))
 }

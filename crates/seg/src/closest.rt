@@ -1,18 +1,17 @@
 // The point of a segment that is closest to a point.
 ghost use Rattle.std.specs.Prelude.{◌≡◌};
+ghost use Rattle.real.specs.Reply.{reply};
 ghost use Rattle.real.specs.Tally.{counting, number_tally};
 ghost use Rattle.plane.specs.Grade.{double};
 ghost use Rattle.plane.specs.Vertex.{pos_of};
-ghost use Rattle.seg.specs.Reply.{point_reply};
 ghost use Rattle.seg.specs.Closest.{point_tally, radial_scale_by, radial_by, nearer_of, arc_closest_by, closest_by, closest_of, seg_closest};
 
-use crate::answer::PointAnswer;
 use crate::arc::{arc_center, chord, inv_four_bulge, sweeps_over};
 use plane::{
     PlineVertex, Vector2, dist_squared, line_seg_closest_point, point_in_range, seg_in_range,
     tol_and_limit_in_range,
 };
-use real::{BAD_NUMBER, BAD_TOLERANCE, RootedNumber, counted_root, magnitude};
+use real::{Refusal, RootedNumber, counted_root, magnitude};
 
 // A point, and how many square roots were taken for it.
 #[derive(Clone, Copy)]
@@ -119,17 +118,17 @@ pub fn seg_closest_point(
     p: Vector2,
     eps: f64,
     limit: f64,
-) -> PointAnswer
-    ensures { point_reply result ≡ seg_closest double limit v1 v2 p eps }
+) -> Result<Vector2, Refusal>
+    ensures { reply result ≡ seg_closest double limit v1 v2 p eps }
 {
     if !seg_in_range(v1, v2) {
-        return PointAnswer::Refused(BAD_NUMBER);
+        return Err(Refusal::BadNumber);
     }
     if !point_in_range(p) {
-        return PointAnswer::Refused(BAD_NUMBER);
+        return Err(Refusal::BadNumber);
     }
     if !tol_and_limit_in_range(eps, limit) {
-        return PointAnswer::Refused(BAD_TOLERANCE);
+        return Err(Refusal::BadTolerance);
     }
-    PointAnswer::Given(closest(v1, v2, p, eps, limit))
+    Ok(closest(v1, v2, p, eps, limit))
 }

@@ -1,17 +1,16 @@
 // Whether a point is farther from a segment than a distance.
 ghost use Rattle.std.specs.Prelude.{◌≡◌};
+ghost use Rattle.real.specs.Reply.{reply};
 ghost use Rattle.plane.specs.Grade.{double};
 ghost use Rattle.plane.specs.Vertex.{pos_of};
-ghost use Rattle.seg.specs.Reply.{bool_reply};
 ghost use Rattle.seg.specs.Distance.{line_far_of, ring_far_of, end_far_of, ends_far_of, arc_far_of, far_of, seg_far};
 
-use crate::answer::BoolAnswer;
 use crate::arc::{arc_center, arc_radius, sweeps_over};
 use plane::{
     FUZZ, PlineVertex, Vector2, coord_in_range, dist_squared, point_in_range, seg_in_range,
     tol_and_limit_in_range,
 };
-use real::{BAD_NUMBER, BAD_TOLERANCE, magnitude};
+use real::{Refusal, magnitude};
 
 // d2 is the squared distance.
 fn line_far(start: Vector2, end: Vector2, p: Vector2, d2: f64) -> bool
@@ -88,20 +87,20 @@ pub fn seg_distance_is_greater_than(
     distance: f64,
     eps: f64,
     limit: f64,
-) -> BoolAnswer
-    ensures { bool_reply result ≡ seg_far double limit v1 v2 p distance eps }
+) -> Result<bool, Refusal>
+    ensures { reply result ≡ seg_far double limit v1 v2 p distance eps }
 {
     if !seg_in_range(v1, v2) {
-        return BoolAnswer::Refused(BAD_NUMBER);
+        return Err(Refusal::BadNumber);
     }
     if !point_in_range(p) {
-        return BoolAnswer::Refused(BAD_NUMBER);
+        return Err(Refusal::BadNumber);
     }
     if !coord_in_range(distance) {
-        return BoolAnswer::Refused(BAD_NUMBER);
+        return Err(Refusal::BadNumber);
     }
     if !tol_and_limit_in_range(eps, limit) {
-        return BoolAnswer::Refused(BAD_TOLERANCE);
+        return Err(Refusal::BadTolerance);
     }
-    BoolAnswer::Given(far(v1, v2, p, magnitude(distance), eps, limit))
+    Ok(far(v1, v2, p, magnitude(distance), eps, limit))
 }

@@ -1,14 +1,13 @@
 // The midpoint of a segment.
 ghost use Rattle.std.specs.Prelude.{◌≡◌};
+ghost use Rattle.real.specs.Reply.{reply};
 ghost use Rattle.plane.specs.Grade.{double};
 ghost use Rattle.plane.specs.Math.{midpoint_of};
 ghost use Rattle.plane.specs.Vertex.{pos_of};
-ghost use Rattle.seg.specs.Reply.{point_reply};
 ghost use Rattle.seg.specs.Middle.{arc_mid, mid_of, seg_mid};
 
-use crate::answer::PointAnswer;
 use plane::{PlineVertex, Vector2, limit_in_range, midpoint, seg_in_range};
-use real::{BAD_NUMBER, BAD_TOLERANCE};
+use real::Refusal;
 
 fn chord_midpoint(v1: PlineVertex, v2: PlineVertex) -> Vector2
     ensures { result ≡ midpoint_of double (pos_of v1) (pos_of v2) }
@@ -36,14 +35,14 @@ fn middle(v1: PlineVertex, v2: PlineVertex, limit: f64) -> Vector2
     arc_middle(v1, v2)
 }
 
-pub fn seg_midpoint(v1: PlineVertex, v2: PlineVertex, limit: f64) -> PointAnswer
-    ensures { point_reply result ≡ seg_mid double limit v1 v2 }
+pub fn seg_midpoint(v1: PlineVertex, v2: PlineVertex, limit: f64) -> Result<Vector2, Refusal>
+    ensures { reply result ≡ seg_mid double limit v1 v2 }
 {
     if !seg_in_range(v1, v2) {
-        return PointAnswer::Refused(BAD_NUMBER);
+        return Err(Refusal::BadNumber);
     }
     if !limit_in_range(limit) {
-        return PointAnswer::Refused(BAD_TOLERANCE);
+        return Err(Refusal::BadTolerance);
     }
-    PointAnswer::Given(middle(v1, v2, limit))
+    Ok(middle(v1, v2, limit))
 }

@@ -1,25 +1,20 @@
 // The split of a segment at a point.
 ghost use Rattle.std.specs.Prelude.{◌≡◌};
 ghost use Rattle.std.specs.Float.Ieee.{lt};
+ghost use Rattle.real.specs.Reply.{reply};
 ghost use Rattle.plane.specs.Grade.{double};
 ghost use Rattle.plane.specs.Vec.{vnear_of};
 ghost use Rattle.plane.specs.Vertex.{pos_of};
-ghost use Rattle.seg.specs.Split.{split_reply, split_at_of, signed_of, half_sine, part_bulge, other_bulge_of, ratio_sq, split_chords_of, split_arc_of, split_of, seg_split};
+ghost use Rattle.seg.specs.Split.{split_at_of, signed_of, half_sine, part_bulge, other_bulge_of, ratio_sq, split_chords_of, split_arc_of, split_of, seg_split};
 
 use crate::arc::{chord, ends_meet};
 use plane::{PlineVertex, Vector2, point_in_range, seg_in_range, tol_and_limit_in_range};
-use real::{BAD_NUMBER, BAD_TOLERANCE, magnitude, root};
+use real::{Refusal, magnitude, root};
 
 #[derive(Clone, Copy)]
 pub struct SplitResult {
     pub updated_start: PlineVertex,
     pub split_vertex: PlineVertex,
-}
-
-#[derive(Clone, Copy)]
-pub enum SplitAnswer {
-    Given(SplitResult),
-    Refused(u8),
 }
 
 fn sin_half_sweep(squared: f64) -> f64
@@ -160,17 +155,17 @@ pub fn seg_split_at_point(
     p: Vector2,
     eps: f64,
     limit: f64,
-) -> SplitAnswer
-    ensures { split_reply result ≡ seg_split double limit v1 v2 p eps }
+) -> Result<SplitResult, Refusal>
+    ensures { reply result ≡ seg_split double limit v1 v2 p eps }
 {
     if !seg_in_range(v1, v2) {
-        return SplitAnswer::Refused(BAD_NUMBER);
+        return Err(Refusal::BadNumber);
     }
     if !point_in_range(p) {
-        return SplitAnswer::Refused(BAD_NUMBER);
+        return Err(Refusal::BadNumber);
     }
     if !tol_and_limit_in_range(eps, limit) {
-        return SplitAnswer::Refused(BAD_TOLERANCE);
+        return Err(Refusal::BadTolerance);
     }
-    SplitAnswer::Given(split_at_point(v1, v2, p, eps, limit))
+    Ok(split_at_point(v1, v2, p, eps, limit))
 }

@@ -1,13 +1,12 @@
 // The tangent of a segment at a point.
 ghost use Rattle.std.specs.Prelude.{◌≡◌};
+ghost use Rattle.real.specs.Reply.{reply};
 ghost use Rattle.plane.specs.Grade.{double};
-ghost use Rattle.seg.specs.Reply.{point_reply};
 ghost use Rattle.seg.specs.Tangent.{arc_tangent_of, tangent_of, seg_tangent};
 
-use crate::answer::PointAnswer;
 use crate::arc::chord;
 use plane::{PlineVertex, Vector2, limit_in_range, point_in_range, seg_in_range};
-use real::{BAD_NUMBER, BAD_TOLERANCE, magnitude};
+use real::{Refusal, magnitude};
 
 fn arc_tangent(v1: PlineVertex, v2: PlineVertex, p: Vector2) -> Vector2
     ensures { result ≡ arc_tangent_of double v1 v2 p }
@@ -30,17 +29,22 @@ fn tangent(v1: PlineVertex, v2: PlineVertex, p: Vector2, limit: f64) -> Vector2
     arc_tangent(v1, v2, p)
 }
 
-pub fn seg_tangent_vector(v1: PlineVertex, v2: PlineVertex, p: Vector2, limit: f64) -> PointAnswer
-    ensures { point_reply result ≡ seg_tangent double limit v1 v2 p }
+pub fn seg_tangent_vector(
+    v1: PlineVertex,
+    v2: PlineVertex,
+    p: Vector2,
+    limit: f64,
+) -> Result<Vector2, Refusal>
+    ensures { reply result ≡ seg_tangent double limit v1 v2 p }
 {
     if !seg_in_range(v1, v2) {
-        return PointAnswer::Refused(BAD_NUMBER);
+        return Err(Refusal::BadNumber);
     }
     if !point_in_range(p) {
-        return PointAnswer::Refused(BAD_NUMBER);
+        return Err(Refusal::BadNumber);
     }
     if !limit_in_range(limit) {
-        return PointAnswer::Refused(BAD_TOLERANCE);
+        return Err(Refusal::BadTolerance);
     }
-    PointAnswer::Given(tangent(v1, v2, p, limit))
+    Ok(tangent(v1, v2, p, limit))
 }

@@ -5,7 +5,7 @@ ghost use Rattle.job.specs.Rows.{joined};
 ghost use Rattle.job.specs.Lines.{refused_line};
 ghost use Rattle.job.specs.Parts.{part_text, sheet_text};
 
-use job::{LIST_NUMBERS, OUTLINE_NUMBERS, OpenAnswer, PART_BYTES};
+use job::{LIST_NUMBERS, OUTLINE_NUMBERS, PART_BYTES};
 use std::io::Write;
 
 // Writes the first n bytes; false where the output takes no more.
@@ -88,8 +88,8 @@ pub(crate) fn write_sheet<W: Write>(out: &mut W, bytes: &[u8]) -> bool {
     let mut outline = [0.0f64; OUTLINE_NUMBERS];
     let answer = job::open_sheet(bytes, &mut outline);
     match answer {
-        OpenAnswer::Refused(number) => write_refused(out, bytes, number, &mut text),
-        OpenAnswer::Given(opened) => {
+        Err(number) => write_refused(out, bytes, number, &mut text),
+        Ok(opened) => {
             let numbers = opened.numbers;
             write_parts(out, bytes, &outline[..numbers], opened.parts, &mut text)
         }

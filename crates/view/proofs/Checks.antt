@@ -8,16 +8,14 @@ use lib.Dec.{ltb, leb, eqb}
 use lib.Ieee.{Float}
 use borrow.Author.Tests.{ltb-true, leb-true, lt-ltb, le-leb}
 use Rattle.real.specs.Refusal.{bad_number, bad_outline, bad_index, bad_offset, uneven_bulges}
-use Rattle.real.specs.Reply.{Reply, refused, given}
+use Rattle.real.specs.Reply.{Reply, refused, given, reply}
 use Rattle.real.proofs.Replies.{never_given, check_passed, check_refused, and_both}
 use Rattle.plane.specs.Grade.{Grade}
 use Rattle.plane.specs.Range.{most_vertices, whole_outline, vertex_ok}
 use Rattle.view.specs.Outline.{vertex_value, count_of, viewable, numbers_ok}
 use Rattle.view.specs.Record.{record_ok, even_bits}
 use Rattle.view.specs.Needs.{Placed}
-use Rattle.view.specs.Check.{pass, check_reply, place_of, check_of, even_of}
-use Rattle.view.specs.declared.check.Check.{Check}
-use Rattle.view.specs.declared.check.Check.TheVariants as check-case
+use Rattle.view.specs.Check.{pass, place_of, check_of, even_of}
 use Rattle.view.specs.declared.view_data.PlineViewData.{PlineViewData}
 use Rattle.view.proofs.All.{all_each}
 
@@ -25,11 +23,11 @@ no_refusal : {A : Type 0} (m : ℕ) (rest : Reply A) → refused m ≡ pass → 
 no_refusal m rest e = never_given e
 
 -- the two cases of the code's answer to a check
-pub told_refused : {m : ℕ} {r : Check} {x : Reply (Unit {0})} → r ≡ check-case.Refused m → check_reply r ≡ x → refused m ≡ x
-told_refused t e = ap check_reply (sym t) ∙ e
+pub told_refused : {m : ℕ} {r : Check} {x : Reply (Unit {0})} → r ≡ check-case.Refused m → reply r ≡ x → refused m ≡ x
+told_refused t e = ap reply (sym t) ∙ e
 
-pub told_passed : {r : Check} {x : Reply (Unit {0})} → r ≡ check-case.Passed → check_reply r ≡ x → pass ≡ x
-told_passed t e = ap check_reply (sym t) ∙ e
+pub told_passed : {r : Check} {x : Reply (Unit {0})} → r ≡ check-case.Passed → reply r ≡ x → pass ≡ x
+told_passed t e = ap reply (sym t) ∙ e
 
 pub few_of_whole : (s : List Float) → whole_outline (length s) ≡ true → count_of s ≤ most_vertices
 unfolding whole_outline

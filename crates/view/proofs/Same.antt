@@ -5,14 +5,9 @@ use Prim.Native.Nat.{ℕ}
 use lib.Dec.{eqb}
 use lib.ListN.{get_or}
 use lib.Ieee.{Float, nan}
-use Rattle.real.specs.Reply.{refused, given}
+use Rattle.real.specs.Reply.{refused, given, reply}
 use Rattle.real.proofs.Same.{told}
 use Rattle.plane.specs.declared.vector2.Vector2.{Vector2}
-use Rattle.view.specs.Answers.{view_reply, count_reply}
-use Rattle.view.specs.declared.view_data.ViewAnswer.{ViewAnswer}
-use Rattle.view.specs.declared.view_data.ViewAnswer.TheVariants as view
-use Rattle.view.specs.declared.view_data.CountAnswer.{CountAnswer}
-use Rattle.view.specs.declared.view_data.CountAnswer.TheVariants as count
 use Rattle.view.specs.Validation.{Verdict, verdict_of, validation_reply, cut, hold, mark_reply}
 use Rattle.view.specs.declared.validation.ViewDataValidation.{ViewDataValidation}
 use Rattle.view.specs.declared.validation.ViewDataValidation.TheVariants as crate
@@ -22,10 +17,10 @@ use Rattle.view.specs.declared.validation.Mark.TheVariants as case
 use Rattle.view.specs.declared.validation.MarkAnswer.{MarkAnswer}
 use Rattle.view.specs.declared.validation.MarkAnswer.TheVariants as mark
 
-pub view_same : (a b : ViewAnswer) → view_reply a ≡ view_reply b → a ≡ b
+pub view_same : (a b : ViewAnswer) → reply a ≡ reply b → a ≡ b
 view_same = told (elim [ given d ↦ view.Given d | refused n ↦ view.Refused n ]) (elim [ view.Given d ↦ refl | view.Refused n ↦ refl ])
 
-pub count_same : (a b : CountAnswer) → count_reply a ≡ count_reply b → a ≡ b
+pub count_same : (a b : CountAnswer) → reply a ≡ reply b → a ≡ b
 count_same = told (elim [ given n ↦ count.Given n | refused n ↦ count.Refused n ]) (elim [ count.Given n ↦ refl | count.Refused n ↦ refl ])
 
 -- a verdict's number and values tell its case

@@ -9,20 +9,8 @@ use Rattle.view.specs.Outline.{viewable}
 use Rattle.view.specs.Record.{turned_of, trimmed_of, vertices, needed, record_vertex_of, listed, record_ok, reads_ok}
 use Rattle.view.specs.Check.{place_of, check_of, even_of}
 use Rattle.view.specs.declared.view_data.PlineViewData.{PlineViewData}
-use Rattle.view.specs.declared.view_data.ViewAnswer.{ViewAnswer}
-use Rattle.view.specs.declared.view_data.ViewAnswer.TheVariants as view
-use Rattle.view.specs.declared.view_data.CountAnswer.{CountAnswer}
-use Rattle.view.specs.declared.view_data.CountAnswer.TheVariants as count
 
 -- the code's answers as replies
-abbrev pub view_reply : ViewAnswer → Reply PlineViewData
-view_reply (view.Given d) = given d
-view_reply (view.Refused n) = refused n
-
-abbrev pub count_reply : CountAnswer → Reply ℕ
-count_reply (count.Given n) = given n
-count_reply (count.Refused n) = refused n
-
 -- what a buffer holds after a call: "a refused call writes nothing"
 unfoldable pub buffer_after : {A : Type 0} → Reply A → List Float → List Float → List Float
 buffer_after (refused n) before after = before

@@ -5,17 +5,11 @@ use Rattle.real.specs.Reply.{Reply, refused, given, check}
 use Rattle.plane.specs.Grade.{Grade}
 use Rattle.view.specs.Outline.{count_of, viewable, numbers_ok}
 use Rattle.view.specs.Record.{record_ok, even_bits}
-use Rattle.view.specs.declared.check.Check.{Check}
-use Rattle.view.specs.declared.check.Check.TheVariants as check-case
 use Rattle.view.specs.declared.view_data.PlineViewData.{PlineViewData}
 
 -- the code's answer to a check; one that passes has nothing to say but that
 abbrev pub pass : Reply (Unit {0})
 pass = given tt
-
-abbrev pub check_reply : Check → Reply (Unit {0})
-check_reply (check-case.Passed) = pass
-check_reply (check-case.Refused n) = refused n
 
 module _ {A : Type 0} where
   -- 5, then 4: "offset above the vertex count", "start .. index not below the vertex count"

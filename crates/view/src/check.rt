@@ -1,20 +1,15 @@
 // The checks that the view calls share, in document 01's order of refusals.
 ghost use Rattle.std.specs.Prelude.{◌≡◌, ◌&&◌, ltb};
+ghost use Rattle.real.specs.Reply.{reply};
 ghost use Rattle.plane.specs.Grade.{double};
 ghost use Rattle.view.specs.Outline.{numbers_ok};
 ghost use Rattle.view.specs.Record.{record_ok, even_bits};
-ghost use Rattle.view.specs.Check.{pass, check_reply, place_of, check_of, even_of};
+ghost use Rattle.view.specs.Check.{pass, place_of, check_of, even_of};
 
 use crate::outline::{serves_views, vertices_in_range};
 use crate::view_data::PlineViewData;
 use plane::{bulge_in_range, point_in_range, vertex_in_range};
-use real::{BAD_INDEX, BAD_NUMBER, BAD_OFFSET, BAD_OUTLINE, UNEVEN_BULGES, bits};
-
-#[derive(Clone, Copy)]
-pub enum Check {
-    Passed,
-    Refused(u8),
-}
+use real::{Refusal, bits};
 
 // Two comparisons at once.
 pub fn both_less(a: usize, b: usize, c: usize, d: usize) -> bool
@@ -33,19 +28,19 @@ pub fn record_in_range(d: PlineViewData) -> bool
 }
 
 // Whether offset and start lie in the outline.
-pub fn check_place(source: &[f64], d: PlineViewData) -> Check
-    ensures { check_reply result ≡ place_of source.now d pass }
+pub fn check_place(source: &[f64], d: PlineViewData) -> Result<(), Refusal>
+    ensures { reply result ≡ place_of source.now d pass }
 {
     let count = source.len() / 3;
     let offset = d.end_index_offset;
     let start = d.start_index;
     if offset > count {
-        return Check::Refused(BAD_OFFSET);
+        return Err(Refusal::BadOffset);
     }
     if start >= count {
-        return Check::Refused(BAD_INDEX);
+        return Err(Refusal::BadIndex);
     }
-    Check::Passed
+    Ok(())
 }
 
 // Whether every number of an outline and a record is in range.
@@ -56,30 +51,30 @@ pub fn numbers_in_range(source: &[f64], d: PlineViewData) -> bool
 }
 
 // What every view call checks first, but lookup by position and validation.
-pub fn check_view(source: &[f64], d: PlineViewData) -> Check
-    ensures { check_reply result ≡ check_of double source.now d pass }
+pub fn check_view(source: &[f64], d: PlineViewData) -> Result<(), Refusal>
+    ensures { reply result ≡ check_of double source.now d pass }
 {
     if !serves_views(source) {
-        return Check::Refused(BAD_OUTLINE);
+        return Err(Refusal::BadOutline);
     }
     if !numbers_in_range(source, d) {
-        return Check::Refused(BAD_NUMBER);
+        return Err(Refusal::BadNumber);
     }
     check_place(source, d)
 }
 
 // What reversal and trim check first.
-pub fn check_even(source: &[f64], d: PlineViewData) -> Check
-    ensures { check_reply result ≡ even_of double source.now d pass }
+pub fn check_even(source: &[f64], d: PlineViewData) -> Result<(), Refusal>
+    ensures { reply result ≡ even_of double source.now d pass }
 {
     let checked = check_view(source, d);
-    if let Check::Refused(n) = checked {
-        return Check::Refused(n);
+    if let Err(n) = checked {
+        return Err(n);
     }
     if !has_even_bulges(d) {
-        return Check::Refused(UNEVEN_BULGES);
+        return Err(Refusal::UnevenBulges);
     }
-    Check::Passed
+    Ok(())
 }
 
 // Whether a record with offset 0 has bulges of equal bits.

@@ -1,9 +1,9 @@
 // The crate's `PlineViewData::create`.
 ghost use Rattle.std.specs.Prelude.{◌≡◌, ◌&&◌};
+ghost use Rattle.real.specs.Reply.{reply};
 ghost use Rattle.plane.specs.Grade.{double};
 ghost use Rattle.plane.specs.Range.{point_ok, vertex_ok};
 ghost use Rattle.view.specs.Outline.{numbers_ok};
-ghost use Rattle.view.specs.Answers.{view_reply};
 ghost use Rattle.view.specs.Needs.{Index, Ends};
 ghost use Rattle.view.specs.Create.{end_on_top_of, end_on_segment_of, ending_of, ended_at_of, create_of};
 
@@ -11,9 +11,9 @@ use crate::check::both_less;
 use crate::ending::{Ending, forward_data};
 use crate::outline::{serves_views, vertex_at, vertex_past, vertices_in_range};
 use crate::segment::split_segment;
-use crate::view_data::{PlineViewData, ViewAnswer};
+use crate::view_data::PlineViewData;
 use plane::{PlineVertex, Vector2, point_in_range, tol_and_limit_in_range, vertex_in_range};
-use real::{BAD_INDEX, BAD_NUMBER, BAD_OFFSET, BAD_OUTLINE, BAD_TOLERANCE};
+use real::Refusal;
 
 // The end on top of vertex `at`.
 fn end_on_top(source: &[f64], at: usize, b: f64, traverse: usize) -> Ending
@@ -73,14 +73,14 @@ fn find_end(
 }
 
 // The record, unless its offset is above the vertex count.
-fn ended_at(source: &[f64], start: usize, p: Vector2, first: PlineVertex, e: Ending) -> ViewAnswer
-    ensures { view_reply result ≡ ended_at_of source.now start p first e }
+fn ended_at(source: &[f64], start: usize, p: Vector2, first: PlineVertex, e: Ending) -> Result<PlineViewData, Refusal>
+    ensures { reply result ≡ ended_at_of source.now start p first e }
 {
     let offset = e.offset;
     if offset > source.len() / 3 {
-        return ViewAnswer::Refused(BAD_OFFSET);
+        return Err(Refusal::BadOffset);
     }
-    ViewAnswer::Given(forward_data(start, first, p, e))
+    Ok(forward_data(start, first, p, e))
 }
 
 fn all_in_range(source: &[f64], p: Vector2, first: PlineVertex) -> bool
@@ -100,24 +100,24 @@ impl PlineViewData {
         traverse: usize,
         eps: f64,
         limit: f64,
-    ) -> ViewAnswer
-        ensures { view_reply result ≡ create_of double limit source.now start p at first traverse eps }
+    ) -> Result<PlineViewData, Refusal>
+        ensures { reply result ≡ create_of double limit source.now start p at first traverse eps }
     {
         if !serves_views(source) {
-            return ViewAnswer::Refused(BAD_OUTLINE);
+            return Err(Refusal::BadOutline);
         }
         if !all_in_range(source, p, first) {
-            return ViewAnswer::Refused(BAD_NUMBER);
+            return Err(Refusal::BadNumber);
         }
         if !tol_and_limit_in_range(eps, limit) {
-            return ViewAnswer::Refused(BAD_TOLERANCE);
+            return Err(Refusal::BadTolerance);
         }
         if traverse == 0 {
-            return ViewAnswer::Refused(BAD_OFFSET);
+            return Err(Refusal::BadOffset);
         }
         let count = source.len() / 3;
         if !both_less(start, count, at, count) {
-            return ViewAnswer::Refused(BAD_INDEX);
+            return Err(Refusal::BadIndex);
         }
         let e = find_end(source, p, at, first.bulge, traverse, eps, limit);
         ended_at(source, start, p, first, e)

@@ -16,5 +16,5 @@ mod validation;
 mod view_data;
 
 pub use outline::vertices_in_range;
-pub use validation::{Judgement, Mark, MarkAnswer, ValidationAnswer, ViewDataValidation};
-pub use view_data::{CountAnswer, PlineViewData, ViewAnswer};
+pub use validation::{Judgement, Mark, ViewDataValidation};
+pub use view_data::PlineViewData;

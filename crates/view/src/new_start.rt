@@ -1,18 +1,18 @@
 // The crate's `PlineViewData::from_new_start`, on closed outlines.
 ghost use Rattle.std.specs.Prelude.{◌≡◌, ◌&&◌};
+ghost use Rattle.real.specs.Reply.{reply};
 ghost use Rattle.plane.specs.Grade.{double};
 ghost use Rattle.plane.specs.Range.{point_ok};
 ghost use Rattle.view.specs.Outline.{count_of, numbers_ok};
-ghost use Rattle.view.specs.Answers.{view_reply};
 ghost use Rattle.view.specs.Needs.{Index, Numbers};
 ghost use Rattle.view.specs.Create.{moved_on, round_ending_of, round_from_of, new_start_of};
 
 use crate::ending::{Ending, forward_data};
 use crate::outline::{fwd_wrapping_index, serves_views, vertex_at, vertex_past, vertices_in_range};
 use crate::segment::split_segment;
-use crate::view_data::{PlineViewData, ViewAnswer};
+use crate::view_data::PlineViewData;
 use plane::{Vector2, point_in_range, tol_and_limit_in_range};
-use real::{BAD_INDEX, BAD_NUMBER, BAD_OUTLINE, BAD_TOLERANCE, NOT_CLOSED};
+use real::Refusal;
 use seg::SplitResult;
 
 // The segment that the view starts on: the next one for a point at the end of segment k.
@@ -76,25 +76,25 @@ impl PlineViewData {
         start: usize,
         eps: f64,
         limit: f64,
-    ) -> ViewAnswer
-        ensures { view_reply result ≡ new_start_of double limit source.now closed p start eps }
+    ) -> Result<PlineViewData, Refusal>
+        ensures { reply result ≡ new_start_of double limit source.now closed p start eps }
     {
         if !serves_views(source) {
-            return ViewAnswer::Refused(BAD_OUTLINE);
+            return Err(Refusal::BadOutline);
         }
         if !outline_and_point_in_range(source, p) {
-            return ViewAnswer::Refused(BAD_NUMBER);
+            return Err(Refusal::BadNumber);
         }
         if !tol_and_limit_in_range(eps, limit) {
-            return ViewAnswer::Refused(BAD_TOLERANCE);
+            return Err(Refusal::BadTolerance);
         }
         if !closed {
-            return ViewAnswer::Refused(NOT_CLOSED);
+            return Err(Refusal::NotClosed);
         }
         if start >= source.len() / 3 {
-            return ViewAnswer::Refused(BAD_INDEX);
+            return Err(Refusal::BadIndex);
         }
         let k = move_on(source, p, start, eps);
-        ViewAnswer::Given(round_from(source, p, k, eps, limit))
+        Ok(round_from(source, p, k, eps, limit))
     }
 }

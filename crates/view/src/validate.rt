@@ -10,10 +10,10 @@ ghost use Rattle.view.specs.Validation.{verdict_of, judged_tally, validation_rep
 use crate::check::numbers_in_range;
 use crate::outline::{fwd_wrapping_index, vertex_at};
 use crate::segment::{ON_VERTEX, RootedTest, point_is_on_segment};
-use crate::validation::{Judgement, MarkAnswer, ValidationAnswer, ViewDataValidation};
+use crate::validation::{Judgement, ViewDataValidation};
 use crate::view_data::PlineViewData;
 use plane::{PlineVertex, fuzzy_eq_eps, limit_in_range, outline_is_whole};
-use real::{BAD_INDEX, BAD_NUMBER, BAD_OUTLINE, BAD_TOLERANCE};
+use real::Refusal;
 
 // Whether the bulges of a view on one segment match; a longer view has nothing to match.
 fn bulges_match(d: PlineViewData) -> bool
@@ -85,7 +85,7 @@ fn judge(source: &[f64], d: PlineViewData, limit: f64) -> Judgement
 }
 
 // Verdicts 1 and 2, then refusal 4, then the others.
-fn judge_counts(source: &[f64], d: PlineViewData, limit: f64) -> ValidationAnswer
+fn judge_counts(source: &[f64], d: PlineViewData, limit: f64) -> Result<Judgement, Refusal>
     requires { count_of source.now ≤ most_vertices }
     ensures { validation_reply result ≡ counts_by counting double limit source.now d }
 {
@@ -93,13 +93,13 @@ fn judge_counts(source: &[f64], d: PlineViewData, limit: f64) -> ValidationAnswe
     let offset = d.end_index_offset;
     let start = d.start_index;
     if count < 2 {
-        return ValidationAnswer::Given(Judgement {
+        return Ok(Judgement {
             verdict: ViewDataValidation::SourceHasNoSegments,
             roots: 0,
         });
     }
     if count < offset {
-        return ValidationAnswer::Given(Judgement {
+        return Ok(Judgement {
             verdict: ViewDataValidation::OffsetOutOfRange {
                 offset,
                 source_length: count,
@@ -108,39 +108,39 @@ fn judge_counts(source: &[f64], d: PlineViewData, limit: f64) -> ValidationAnswe
         });
     }
     if start >= count {
-        return ValidationAnswer::Refused(BAD_INDEX);
+        return Err(Refusal::BadIndex);
     }
-    ValidationAnswer::Given(judge(source, d, limit))
+    Ok(judge(source, d, limit))
 }
 
 impl PlineViewData {
     // The crate's verdict on the record over an outline, and how many square roots it took.
-    pub fn validate_for_source(self, source: &[f64], limit: f64) -> ValidationAnswer
+    pub fn validate_for_source(self, source: &[f64], limit: f64) -> Result<Judgement, Refusal>
         ensures { validation_reply result ≡ validate_counted double limit source.now self }
     {
         if !outline_is_whole(source) {
-            return ValidationAnswer::Refused(BAD_OUTLINE);
+            return Err(Refusal::BadOutline);
         }
         if !numbers_in_range(source, self) {
-            return ValidationAnswer::Refused(BAD_NUMBER);
+            return Err(Refusal::BadNumber);
         }
         if !limit_in_range(limit) {
-            return ValidationAnswer::Refused(BAD_TOLERANCE);
+            return Err(Refusal::BadTolerance);
         }
         judge_counts(source, self, limit)
     }
 
     // Whether the view is cut or held.
-    pub fn mark(self, source: &[f64], closed: bool, limit: f64) -> MarkAnswer
+    pub fn mark(self, source: &[f64], closed: bool, limit: f64) -> Result<Mark, Refusal>
         ensures { mark_reply result ≡ mark_answer closed source.now self (validate_of double limit source.now self) }
     {
         let answer = self.validate_for_source(source, limit);
         match answer {
-            ValidationAnswer::Given(judged) => {
+            Ok(judged) => {
                 let verdict = judged.verdict;
-                MarkAnswer::Given(verdict.mark(self, source, closed))
+                Ok(verdict.mark(self, source, closed))
             }
-            ValidationAnswer::Refused(n) => MarkAnswer::Refused(n),
+            Err(n) => Err(n),
         }
     }
 }

@@ -38,21 +38,9 @@ pub struct Judgement {
 }
 
 #[derive(Clone, Copy)]
-pub enum ValidationAnswer {
-    Given(Judgement),
-    Refused(u8),
-}
-
-#[derive(Clone, Copy)]
 pub enum Mark {
     Cut,
     Hold,
-}
-
-#[derive(Clone, Copy)]
-pub enum MarkAnswer {
-    Given(Mark),
-    Refused(u8),
 }
 
 impl ViewDataValidation {

@@ -1,16 +1,16 @@
 // The crate's `PlineViewData`, with listing, reversal and trim.
 ghost use Rattle.std.specs.Prelude.{◌≡◌, length};
+ghost use Rattle.real.specs.Reply.{reply};
 ghost use Rattle.plane.specs.Grade.{double};
-ghost use Rattle.plane.specs.From.{vertex_reply};
-ghost use Rattle.view.specs.Answers.{view_reply, count_reply, get_vertex_of, vertex_count_of, list_of, list_buffer, reverse_of, trim_of};
+ghost use Rattle.view.specs.Answers.{get_vertex_of, vertex_count_of, list_of, list_buffer, reverse_of, trim_of};
 
-use crate::check::{Check, both_less, check_even, check_place, check_view};
+use crate::check::{both_less, check_even, check_place, check_view};
 use crate::list::write_list;
 use crate::lookup::{lookup_in_range, vertex_of};
 use crate::outline::serves_views;
 use crate::part::trimmed;
-use plane::{PlineVertex, Vector2, VertexAnswer};
-use real::{BAD_INDEX, BAD_NUMBER, BAD_OUTLINE, BAD_TRIM, NO_ROOM};
+use plane::{PlineVertex, Vector2};
+use real::Refusal;
 
 #[derive(Clone, Copy)]
 pub struct PlineViewData {
@@ -28,94 +28,82 @@ pub struct PlineViewData {
     pub cut_number: u32,
 }
 
-#[derive(Clone, Copy)]
-pub enum ViewAnswer {
-    Given(PlineViewData),
-    Refused(u8),
-}
-
-#[derive(Clone, Copy)]
-pub enum CountAnswer {
-    Given(usize),
-    Refused(u8),
-}
-
 impl PlineViewData {
     // The vertex at a position of the view.
-    pub fn get_vertex(self, source: &[f64], index: usize) -> VertexAnswer
-        ensures { vertex_reply result ≡ get_vertex_of double source.now self index }
+    pub fn get_vertex(self, source: &[f64], index: usize) -> Result<PlineVertex, Refusal>
+        ensures { reply result ≡ get_vertex_of double source.now self index }
     {
         if !serves_views(source) {
-            return VertexAnswer::Refused(BAD_OUTLINE);
+            return Err(Refusal::BadOutline);
         }
         let place = check_place(source, self);
-        if let Check::Refused(n) = place {
-            return VertexAnswer::Refused(n);
+        if let Err(n) = place {
+            return Err(n);
         }
         let offset = self.end_index_offset;
         if index >= offset + 2 {
-            return VertexAnswer::Refused(BAD_INDEX);
+            return Err(Refusal::BadIndex);
         }
         if !lookup_in_range(source, self, index) {
-            return VertexAnswer::Refused(BAD_NUMBER);
+            return Err(Refusal::BadNumber);
         }
-        VertexAnswer::Given(vertex_of(source, self, index))
+        Ok(vertex_of(source, self, index))
     }
 
     // How many vertices the view has.
-    pub fn vertex_count(self, source: &[f64]) -> CountAnswer
-        ensures { count_reply result ≡ vertex_count_of double source.now self }
+    pub fn vertex_count(self, source: &[f64]) -> Result<usize, Refusal>
+        ensures { reply result ≡ vertex_count_of double source.now self }
     {
         let checked = check_view(source, self);
-        if let Check::Refused(n) = checked {
-            return CountAnswer::Refused(n);
+        if let Err(n) = checked {
+            return Err(n);
         }
         let offset = self.end_index_offset;
-        CountAnswer::Given(offset + 2)
+        Ok(offset + 2)
     }
 
     // Writes all vertices of the view into a buffer, in threes, and answers how many.
-    pub fn list(self, source: &[f64], out: &mut [f64]) -> CountAnswer
-        ensures { (count_reply result ≡ list_of double source.now self (length out.old)) × (out.new ≡ list_buffer double source.now self out.old) }
+    pub fn list(self, source: &[f64], out: &mut [f64]) -> Result<usize, Refusal>
+        ensures { (reply result ≡ list_of double source.now self (length out.old)) × (out.new ≡ list_buffer double source.now self out.old) }
     {
         let checked = check_view(source, self);
-        if let Check::Refused(n) = checked {
-            return CountAnswer::Refused(n);
+        if let Err(n) = checked {
+            return Err(n);
         }
         let offset = self.end_index_offset;
         let count = offset + 2;
         if out.len() < 3 * count {
-            return CountAnswer::Refused(NO_ROOM);
+            return Err(Refusal::NoRoom);
         }
         write_list(source, self, out);
-        CountAnswer::Given(count)
+        Ok(count)
     }
 
     // The view turned round.
-    pub fn reverse(self, source: &[f64]) -> ViewAnswer
-        ensures { view_reply result ≡ reverse_of double source.now self }
+    pub fn reverse(self, source: &[f64]) -> Result<PlineViewData, Refusal>
+        ensures { reply result ≡ reverse_of double source.now self }
     {
         let checked = check_even(source, self);
-        if let Check::Refused(n) = checked {
-            return ViewAnswer::Refused(n);
+        if let Err(n) = checked {
+            return Err(n);
         }
         let mut r = self;
         r.inverted_direction = !self.inverted_direction;
-        ViewAnswer::Given(r)
+        Ok(r)
     }
 
     // Positions i to j of the view.
-    pub fn trim(self, source: &[f64], i: usize, j: usize) -> ViewAnswer
-        ensures { view_reply result ≡ trim_of double source.now self i j }
+    pub fn trim(self, source: &[f64], i: usize, j: usize) -> Result<PlineViewData, Refusal>
+        ensures { reply result ≡ trim_of double source.now self i j }
     {
         let checked = check_even(source, self);
-        if let Check::Refused(n) = checked {
-            return ViewAnswer::Refused(n);
+        if let Err(n) = checked {
+            return Err(n);
         }
         let offset = self.end_index_offset;
         if !both_less(i, j, j, offset + 2) {
-            return ViewAnswer::Refused(BAD_TRIM);
+            return Err(Refusal::BadTrim);
         }
-        ViewAnswer::Given(trimmed(source, self, i, j))
+        Ok(trimmed(source, self, i, j))
     }
 }

@@ -2,8 +2,8 @@
 use Rattle.bisquefern.proofs.Read.{reads}
 use Rattle.bisquefern.proofs.segment.bf_seg_arc_radius_and_center.Goals as goal
 
-pub returns-in-Given : goal.returns-in-Given
-returns-in-Given c = search reads
+pub returns-in-Ok : goal.returns-in-Ok
+returns-in-Ok c = search reads
 
-pub returns-in-Refused : goal.returns-in-Refused
-returns-in-Refused c = search reads
+pub returns-in-Err : goal.returns-in-Err
+returns-in-Err c = search reads

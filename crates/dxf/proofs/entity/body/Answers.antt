@@ -22,11 +22,11 @@ returns-in-Done c =
     let o = c.args in
     body_early o.bytes.now o.at l.i l.s _ _ l.invariant c.turn.result c.turn.ensures c.ends.result c.ends.ensures (omega (arith, l.invariant.within, l.invariant.few)) c.in-Done.is c.if-ends.false
 
-pub returns-in-Refused : goal.returns-in-Refused
-returns-in-Refused c =
+pub returns-in-Err : goal.returns-in-Err
+returns-in-Err c =
     let l = c.loop-k in
     let o = c.args in
-    body_bad o.bytes.now o.at l.i l.s _ _ l.invariant c.turn.result c.turn.ensures c.in-Refused.k c.in-Refused.is
+    body_bad o.bytes.now o.at l.i l.s _ _ l.invariant c.turn.result c.turn.ensures c.in-Err.k c.in-Err.is
 
 pub loop-k-smaller : goal.loop-k-smaller
 loop-k-smaller c =

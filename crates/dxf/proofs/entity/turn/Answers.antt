@@ -53,16 +53,16 @@ returns-else-c-eq0 c m h =
     let i = c.item_at in
     turn_lone o.bytes.now o.at o.s o.out.now m i.result i.ensures c.in-Lone.c c.in-Lone.is c.if-c-eq0.false
 
-pub returns-in-Given : goal.returns-in-Given
-returns-in-Given c m h =
+pub returns-in-Ok : goal.returns-in-Ok
+returns-in-Ok c m h =
     let o = c.args in
     let i = c.item_at in
     let s = c.step in
-    turn_more o.bytes.now o.at o.s s.new.out m i.result i.ensures c.in-Pair.code c.in-Pair.start c.in-Pair.end c.in-Pair.next c.in-Pair.is c.in-Given.t s.result c.in-Given.is c.if-code-eq0.false (s.ensures m h)
+    turn_more o.bytes.now o.at o.s s.new.out m i.result i.ensures c.in-Pair.code c.in-Pair.start c.in-Pair.end c.in-Pair.next c.in-Pair.is c.in-Ok.t s.result c.in-Ok.is c.if-code-eq0.false (s.ensures m h)
 
-pub returns-in-Refused : goal.returns-in-Refused
-returns-in-Refused c m h =
+pub returns-in-Err : goal.returns-in-Err
+returns-in-Err c m h =
     let o = c.args in
     let i = c.item_at in
     let s = c.step in
-    turn_bad o.bytes.now o.at o.s s.new.out m i.result i.ensures c.in-Pair.code c.in-Pair.start c.in-Pair.end c.in-Pair.next c.in-Pair.is c.in-Refused.k s.result c.in-Refused.is c.if-code-eq0.false (s.ensures m h)
+    turn_bad o.bytes.now o.at o.s s.new.out m i.result i.ensures c.in-Pair.code c.in-Pair.start c.in-Pair.end c.in-Pair.next c.in-Pair.is c.in-Err.k s.result c.in-Err.is c.if-code-eq0.false (s.ensures m h)

@@ -3,14 +3,14 @@ use Rattle.dxf.specs.Outline.{outline_to, outline_buffer}
 use Rattle.dxf.proofs.Outlines.{dxf_bad, dxf_good}
 use Rattle.dxf.proofs.outline.dxf_outline.Goals as goal
 
-pub returns-in-Given : goal.returns-in-Given
+pub returns-in-Ok : goal.returns-in-Ok
 unfolding outline_to outline_buffer
-returns-in-Given c =
+returns-in-Ok c =
     let o = c.args in
-    dxf_good o.text.now c.read.result _ o.out.now c.read.ensures c.in-Given.s c.finish_read.result _ c.in-Given.is c.finish_read.ensures
+    dxf_good o.text.now c.read.result _ o.out.now c.read.ensures c.in-Ok.s c.finish_read.result _ c.in-Ok.is c.finish_read.ensures
 
-pub returns-in-Refused : goal.returns-in-Refused
+pub returns-in-Err : goal.returns-in-Err
 unfolding outline_to outline_buffer
-returns-in-Refused c =
+returns-in-Err c =
     let o = c.args in
-    dxf_bad o.text.now c.read.result _ o.out.now c.read.ensures c.in-Refused.k c.in-Refused.is
+    dxf_bad o.text.now c.read.result _ o.out.now c.read.ensures c.in-Err.k c.in-Err.is

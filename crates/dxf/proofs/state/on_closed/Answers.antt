@@ -1,15 +1,15 @@
 -- Digits only, or the refusal.
 use mathlib.Core.Path.{sym, ap, ◌∙◌}
-use Rattle.numeral.specs.Digits.{whole_reply}
+use Rattle.real.specs.Reply.{reply}
 use Rattle.dxf.proofs.States.{closed_bad, closed_good}
 use Rattle.dxf.proofs.state.on_closed.Goals as goal
 
-pub returns-in-Given : goal.returns-in-Given
-returns-in-Given c a m h =
+pub returns-in-Ok : goal.returns-in-Ok
+returns-in-Ok c a m h =
     let o = c.args in
-    closed_good o.s a m h o.text.now c.in-Given.n (sym (ap whole_reply c.in-Given.is) ∙ c.whole.ensures)
+    closed_good o.s a m h o.text.now c.in-Ok.n (sym (ap reply c.in-Ok.is) ∙ c.whole.ensures)
 
-pub returns-in-Refused : goal.returns-in-Refused
-returns-in-Refused c a m h =
+pub returns-in-Err : goal.returns-in-Err
+returns-in-Err c a m h =
     let o = c.args in
-    closed_bad o.s a m h o.text.now c.in-Refused.k (sym (ap whole_reply c.in-Refused.is) ∙ c.whole.ensures)
+    closed_bad o.s a m h o.text.now c.in-Err.k (sym (ap reply c.in-Err.is) ∙ c.whole.ensures)

@@ -9,11 +9,11 @@ use Rattle.job.proofs.part.put_view.Goals as goal
 
 pub put_marked-requires : goal.put_marked-requires
 put_marked-requires c =
-    (c.requires.0, omega arith, verdict_told double double.line _ _ c.validate_for_source-answer.ensures c.in-Given.is)
+    (c.requires.0, omega arith, verdict_told double double.line _ _ c.validate_for_source-answer.ensures c.in-Ok.is)
 
-pub returns-in-Refused : goal.returns-in-Refused
-returns-in-Refused c =
+pub returns-in-Err : goal.returns-in-Err
+returns-in-Err c =
     let a = c.args in
-    let e = verdict_told double double.line _ _ c.validate_for_source-answer.ensures c.in-Refused.is in
-    let length = refused_view_length a.k c.in-Refused.number c.requires.0 (omega arith) in
+    let e = verdict_told double double.line _ _ c.validate_for_source-answer.ensures c.in-Err.is in
+    let length = refused_view_length a.k c.in-Err.number c.requires.0 (omega arith) in
     (named_part (refused_text a.closed a.outline.now a.d a.k a.list.now _ e) (record { piece = c.put_refused_view.ensures; short = length }), refused_buffer a.closed a.outline.now a.d a.k a.list.now _ e)

@@ -9,11 +9,11 @@ use Rattle.lent.proofs.give.give_mark.Goals as goal
 
 pub returns-in-Cut : goal.returns-in-Cut
 returns-in-Cut c =
-    replies (ap mark_reply (sym c.in-Given.is)) (stored_as one mark_byte (ap (λ (m : Mark). mark_byte (mark_case m)) (sym c.in-Cut.is)) c.write_byte.ensures)
+    replies (ap mark_reply (sym c.in-Ok.is)) (stored_as one mark_byte (ap (λ (m : Mark). mark_byte (mark_case m)) (sym c.in-Cut.is)) c.write_byte.ensures)
 
 pub returns-in-Hold : goal.returns-in-Hold
 returns-in-Hold c =
-    replies (ap mark_reply (sym c.in-Given.is)) (stored_as one mark_byte (ap (λ (m : Mark). mark_byte (mark_case m)) (sym c.in-Hold.is)) c.write_byte-in-Hold.ensures)
+    replies (ap mark_reply (sym c.in-Ok.is)) (stored_as one mark_byte (ap (λ (m : Mark). mark_byte (mark_case m)) (sym c.in-Hold.is)) c.write_byte-in-Hold.ensures)
 
-pub returns-in-Refused : goal.returns-in-Refused
-returns-in-Refused c = search (hands_on mark_reply)
+pub returns-in-Err : goal.returns-in-Err
+returns-in-Err c = search (hands_on mark_reply)

@@ -1,14 +1,13 @@
 -- The values are written, or the refusal is handed on.
-use Rattle.real.specs.SqrtReply.{sqrt_reply}
-use Rattle.real.specs.Reply.{and_then}
+use Rattle.real.specs.Reply.{and_then, reply}
 use Rattle.lent.specs.Lent.{one}
 use Rattle.lent.proofs.Laws.{gives, hands_on}
 use Rattle.lent.proofs.give.give_root.Goals as goal
 
-pub returns-in-Given : goal.returns-in-Given
+pub returns-in-Ok : goal.returns-in-Ok
 unfolding and_then
-returns-in-Given c = search (gives sqrt_reply one)
+returns-in-Ok c = search (gives reply one)
 
-pub returns-in-Refused : goal.returns-in-Refused
+pub returns-in-Err : goal.returns-in-Err
 unfolding and_then
-returns-in-Refused c = search (hands_on sqrt_reply)
+returns-in-Err c = search (hands_on reply)

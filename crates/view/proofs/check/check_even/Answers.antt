@@ -6,9 +6,9 @@ use Rattle.view.specs.Check.{even_of}
 use Rattle.view.proofs.Checks.{told_refused, told_passed, checked, checked_rest, checked_refused, even_rest}
 use Rattle.view.proofs.check.check_even.Goals as goal
 
-pub returns-in-Refused : goal.returns-in-Refused
+pub returns-in-Err : goal.returns-in-Err
 unfolding even_of
-returns-in-Refused c = checked_refused double _ _ _ _ (told_refused c.in-Refused.is c.check_view-checked.ensures)
+returns-in-Err c = checked_refused double _ _ _ _ (told_refused c.in-Err.is c.check_view-checked.ensures)
 
 pub returns-then-not-has_even_bulges : goal.returns-then-not-has_even_bulges
 unfolding even_of

@@ -44,10 +44,10 @@ pub returns-then-not-serves_views : goal.returns-then-not-serves_views
 unfolding get_vertex_of
 returns-then-not-serves_views c = bad _ c.serves_views.ensures c.if-not-serves_views.true refl
 
-pub returns-in-Refused : goal.returns-in-Refused
+pub returns-in-Err : goal.returns-in-Err
 unfolding get_vertex_of
-returns-in-Refused c =
-    good _ c.serves_views.ensures c.if-not-serves_views.false (place_refused _ _ _ _ (told_refused c.in-Refused.is c.check_place-place.ensures))
+returns-in-Err c =
+    good _ c.serves_views.ensures c.if-not-serves_views.false (place_refused _ _ _ _ (told_refused c.in-Err.is c.check_place-place.ensures))
 
 pub returns-then-index-offset : goal.returns-then-index-offset
 returns-then-index-offset c =

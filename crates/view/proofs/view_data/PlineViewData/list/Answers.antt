@@ -26,10 +26,10 @@ after s d out r = buffer_after r out (written double s d out)
 clear : (c : In_default) → Checked double c.args.source.now c.args.self
 clear c = checked double _ _ _ (told_passed c.in_default.is c.check_view-checked.ensures)
 
-pub returns-in-Refused : goal.returns-in-Refused
+pub returns-in-Err : goal.returns-in-Err
 unfolding list_of list_buffer buffer_after
-returns-in-Refused c =
-    let e = checked_refused double c.args.source.now c.args.self _ _ (told_refused c.in-Refused.is c.check_view-checked.ensures) in
+returns-in-Err c =
+    let e = checked_refused double c.args.source.now c.args.self _ _ (told_refused c.in-Err.is c.check_view-checked.ensures) in
     (e, ap (after c.args.source.now c.args.self c.args.out.now) e)
 
 pub returns-then-out-count : goal.returns-then-out-count

@@ -6,9 +6,9 @@ use Rattle.view.specs.Answers.{reverse_of}
 use Rattle.view.proofs.Checks.{told_refused, told_passed, even_refused, evened, even_rest}
 use Rattle.view.proofs.view_data.PlineViewData.reverse.Goals as goal
 
-pub returns-in-Refused : goal.returns-in-Refused
+pub returns-in-Err : goal.returns-in-Err
 unfolding reverse_of
-returns-in-Refused c = even_refused double _ _ _ _ (told_refused c.in-Refused.is c.check_even-checked.ensures)
+returns-in-Err c = even_refused double _ _ _ _ (told_refused c.in-Err.is c.check_even-checked.ensures)
 
 pub returns : goal.returns
 unfolding reverse_of turn_view

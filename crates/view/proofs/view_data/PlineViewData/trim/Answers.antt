@@ -15,9 +15,9 @@ use Rattle.view.proofs.view_data.PlineViewData.trim.Goals.{In_default}
 clear : (c : In_default) → let a = c.args in Evened double a.source.now a.self
 clear c = evened double _ _ _ (told_passed c.in_default.is c.check_even-checked.ensures)
 
-pub returns-in-Refused : goal.returns-in-Refused
+pub returns-in-Err : goal.returns-in-Err
 unfolding trim_of
-returns-in-Refused c = even_refused double _ _ _ _ (told_refused c.in-Refused.is c.check_even-checked.ensures)
+returns-in-Err c = even_refused double _ _ _ _ (told_refused c.in-Err.is c.check_even-checked.ensures)
 
 pub returns-then-not-both_less : goal.returns-then-not-both_less
 unfolding trim_of

@@ -10,9 +10,9 @@ use Rattle.view.proofs.view_data.PlineViewData.vertex_count.Goals.{In_default}
 clear : (c : In_default) → let a = c.args in Checked double a.source.now a.self
 clear c = checked double _ _ _ (told_passed c.in_default.is c.check_view-checked.ensures)
 
-pub returns-in-Refused : goal.returns-in-Refused
+pub returns-in-Err : goal.returns-in-Err
 unfolding vertex_count_of
-returns-in-Refused c = checked_refused double _ _ _ _ (told_refused c.in-Refused.is c.check_view-checked.ensures)
+returns-in-Err c = checked_refused double _ _ _ _ (told_refused c.in-Err.is c.check_view-checked.ensures)
 
 pub returns : goal.returns
 unfolding vertex_count_of
