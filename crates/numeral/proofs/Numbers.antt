@@ -1,63 +1,60 @@
 -- A number's text by its parts, and what its number is: the nearest value (`number_is`), and no other (`only_number`).
 use mathlib.Core.Path.{◌≡◌, refl, sym, ap, ap₂, ◌∙◌, subst}
-use mathlib.Core.List.{List, [], ◌∷◌, ◌++◌, append-nil}
-use mathlib.Core.Bool.{Bool, true, false, ◌&&◌, true≢false}
-use Prim.Native.Nat.{ℕ, ◌+◌, ◌^◌, ◌≤◌, ◌<◌}
+use mathlib.Core.List.{List, [], ◌∷◌, ◌++◌}
+use mathlib.Core.Bool.{Bool, true, false, cond, ◌&&◌, true≢false}
+use Prim.Native.Nat.{ℕ, suc, ◌+◌, ◌^◌, ◌≤◌, ◌<◌}
 use native.Mathlib.Nat.{le_of_lt, lt_irrefl, lt_of_lt_of_le, lt_of_le_of_lt, pow-le-pow_right}
-use native.Mathlib.Numerals.{add-one}
 use native.Mathlib.Omega.{arith}
 use lib.ListN.{length, take, drop, get_or, drop_of_length-le, length-append}
-use lib.Seq.{take-suc, append_snoc}
+use lib.Seq.{take_all}
 use lib.Dec.{T, leb, lit≤, lit<}
 use lib.Ieee.{Float, binary64, round, fits}
-use borrow.Author.Tests.{ne_eqb, eq-eqb, lt-leb, le-leb, leb-true}
+use borrow.Author.Tests.{ltb-false, ne_eqb, lt-leb, le-leb, leb-true}
+use Rattle.std.specs.Prelude.{Option, Some, None, position, eqb, nat_lt}
+use Rattle.std.specs.List.{position_or_len}
 use Rattle.real.specs.Refusal.{bad_text}
 use Rattle.real.specs.Reply.{Reply, refused, given, check}
 use Rattle.real.proofs.Replies.{same_given, check_passed, check_failed, and_both}
 use Rattle.numeral.specs.Digits.{all_digits, value_from, value_of, cap, kept, digits_of}
 use Rattle.numeral.specs.Decimal.{is_minus, unsigned, before_point, after_point, front, places, few_digits, is_number, numerator, denominator, number_of, IsNumber, decimal_of, unsigned_of}
 use Rattle.numeral.proofs.Round.{round_closest, only_closest}
-use Rattle.numeral.proofs.Text.{here}
 use Rattle.numeral.proofs.Values.{digits_append, value_append, value_under, kept_under}
 
--- ---- the point: the bytes before place i have none
+-- ---- the point: the first byte that is one
 
-pub record Unpointed (t : List ℕ) (i : ℕ) : Type 0 where
-  pub within : i ≤ length t
-  pub before : before_point t ≡ take i t ++ before_point (drop i t)
-  pub after : after_point t ≡ after_point (drop i t)
+abbrev is_point : ℕ → Bool
+is_point b = eqb b 46
 
-pub unpointed_start : (t : List ℕ) → Unpointed t 0
-unpointed_start t = record { within = omega arith; before = refl; after = refl }
+one_more : (n : ℕ) → 1 + n ≡ suc n
+one_more n = omega arith
 
-no_point : (b : ℕ) (t : List ℕ) → (b ≡ 46 → ⊥) → (before_point (b ∷ t) ≡ b ∷ before_point t) × (after_point (b ∷ t) ≡ after_point t)
+past_one : (n : ℕ) → 1 + n + 1 ≡ suc (n + 1)
+past_one n = omega arith
+
+by_point : (t : List ℕ) → (take (position_or_len is_point t) t ≡ before_point t) × (drop (position_or_len is_point t + 1) t ≡ after_point t)
 unfolding before_point after_point
-no_point b t d = (simp (ne_eqb b 46 d), simp (ne_eqb b 46 d))
+by_point [] = (refl, refl)
+by_point (b ∷ t) = go (is_point b) refl (by_point t)
+  where
+    go : (h : Bool) → is_point b ≡ h → (take (position_or_len is_point t) t ≡ before_point t) × (drop (position_or_len is_point t + 1) t ≡ after_point t) → (take (position_or_len is_point (b ∷ t)) (b ∷ t) ≡ before_point (b ∷ t)) × (drop (position_or_len is_point (b ∷ t) + 1) (b ∷ t) ≡ after_point (b ∷ t))
+    go true e r = (simp e, simp e)
+    go false e r = (simp (e, one_more, r.0), simp e (ap (λ (n : ℕ). drop n (b ∷ t)) (past_one (position_or_len is_point t)) ∙ r.1))
 
-a_point : (b : ℕ) (t : List ℕ) → b ≡ 46 → (before_point (b ∷ t) ≡ []) × (after_point (b ∷ t) ≡ t)
-unfolding before_point after_point
-a_point b t e = (simp (eq-eqb b 46 e), simp (eq-eqb b 46 e))
+pub parted_at : (t : List ℕ) (p : ℕ) → Some p ≡ position is_point t → (take p t ≡ before_point t) × (drop (p + 1) t ≡ after_point t)
+parted_at t p e = go (nat_lt (position_or_len is_point t) (length t)) e
+  where
+    go : (h : Bool) → Some p ≡ cond h (Some (position_or_len is_point t)) None → (take p t ≡ before_point t) × (drop (p + 1) t ≡ after_point t)
+    go true e = let q : position_or_len is_point t ≡ p = cc in subst (λ (n : ℕ). (take n t ≡ before_point t) × (drop (n + 1) t ≡ after_point t)) q (by_point t)
+    go false e = absurd (cc)
 
-module _ (t : List ℕ) (i : ℕ) (u : Unpointed t i) where
-  pub unpointed_more : i < length t → (get_or t i 0 ≡ 46 → ⊥) → Unpointed t (i + 1)
-  unpointed_more h d =
-      let n = no_point (get_or t i 0) (drop (i + 1) t) d in
-      record {
-        within = omega arith;
-        before = u.before ∙ ap (λ (l : List ℕ). take i t ++ l) (ap before_point (here t i h) ∙ n.0) ∙ sym (append_snoc (take i t) (get_or t i 0) (before_point (drop (i + 1) t))) ∙ ap (λ (l : List ℕ). l ++ before_point (drop (i + 1) t)) (sym (take-suc t i 0 h) ∙ ap (λ (m : ℕ). take m t) (sym (add-one i)));
-        after = u.after ∙ ap after_point (here t i h) ∙ n.1;
-      }
-
-  pub unpointed_at : i < length t → get_or t i 0 ≡ 46 → (i ≤ length t) × (take i t ≡ before_point t) × (drop (i + 1) t ≡ after_point t)
-  unpointed_at h e =
-      let n = a_point (get_or t i 0) (drop (i + 1) t) e in
-      (u.within, sym (u.before ∙ ap (λ (l : List ℕ). take i t ++ l) (ap before_point (here t i h) ∙ n.0) ∙ append-nil (take i t)), sym (u.after ∙ ap after_point (here t i h) ∙ n.1))
-
-  pub unpointed_end : length t ≤ i → (i ≤ length t) × (take i t ≡ before_point t) × (drop (i + 1) t ≡ after_point t)
-  unfolding before_point after_point
-  unpointed_end h =
-      let e : drop i t ≡ [] = drop_of_length-le t h in
-      (u.within, sym (u.before ∙ ap (λ (l : List ℕ). take i t ++ before_point l) e ∙ append-nil (take i t)), drop_of_length-le t {i = i + 1} (omega arith) ∙ sym (u.after ∙ ap after_point e))
+pub unparted : (t : List ℕ) → ◌≡◌ {A = Option ℕ} None (position is_point t) → (t ≡ before_point t) × ([] ≡ after_point t)
+unparted t e = go (nat_lt (position_or_len is_point t) (length t)) refl e
+  where
+    go : (h : Bool) → nat_lt (position_or_len is_point t) (length t) ≡ h → ◌≡◌ {A = Option ℕ} None (cond h (Some (position_or_len is_point t)) None) → (t ≡ before_point t) × ([] ≡ after_point t)
+    go true d e = absurd (cc)
+    go false d e =
+        let l = ltb-false (position_or_len is_point t) (length t) d in
+        (sym (take_all (position_or_len is_point t) t l) ∙ (by_point t).0, sym (drop_of_length-le t {i = position_or_len is_point t + 1} (omega arith)) ∙ (by_point t).1)
 
 -- ---- the digits w and r before and after the point, 15 at most
 
@@ -134,8 +131,8 @@ number_by : (t : List ℕ) → unsigned_of (is_minus t) (unsigned t) ≡ number_
 unfolding number_of
 number_by t = sym (whole_text_law (is_minus t) t)
 
-pub number_none : (t : List ℕ) → length t < 1 → refused bad_text ≡ number_of t
-unfolding unsigned_of unsigned is_minus before_point after_point
+pub number_none : (t : List ℕ) → length t < 1 → unsigned_of false t ≡ number_of t
+unfolding unsigned is_minus
 number_none [] h = number_by []
 number_none (b ∷ t) h = absurd (lt_irrefl 0 (omega arith))
 

@@ -1,7 +1,7 @@
 -- Digits in a text, which is a list of bytes, and the number that they stand for.
 use Rattle.std.specs.Prelude.{ℕ, ◌+◌, ◌-◌, ◌*◌, ◌%◌, Bool, true, cond, ◌&&◌, List, [], ◌∷◌, length, leb, ltb}
 use Rattle.real.specs.Refusal.{bad_text}
-use Rattle.real.specs.Reply.{Reply, refused, given, check}
+use Rattle.real.specs.Reply.{Reply, given, check}
 
 unfoldable pub is_digit_of : ℕ → Bool
 is_digit_of b = leb 48 b && leb b 57

@@ -1,5 +1,5 @@
 // Digits, and the number that they stand for.
-ghost use Rattle.std.specs.Prelude.{◌≡◌, ◌+◌, ◌-◌, ◌*◌, ◌≤◌, ◌<◌};
+ghost use Rattle.std.specs.Prelude.{◌≡◌, ◌+◌, ◌*◌, ◌≤◌, ◌<◌};
 ghost use Rattle.real.specs.Reply.{reply};
 ghost use Rattle.numeral.specs.Digits as spec;
 
@@ -8,24 +8,12 @@ use real::Refusal;
 // A number from here on is kept as this one or the next, whichever has its parity.
 const CAP: u64 = 10_000_000_000_000_000_000;
 
-fn wide(x: u8) -> u64
-    ensures { (result ≡ x) × (result < 256) }
-{
-    x as u64
-}
-
-fn is_digit(b: u8) -> bool
-    ensures { result ≡ spec.is_digit_of b }
-{
-    48 <= b && b <= 57
-}
-
 // The digit d written on after v.
 fn written_on(v: u64, d: u64) -> u64
     requires { (v ≤ spec.cap + 1) × (d ≤ 9) }
     ensures { (result ≡ spec.kept (10 * v + d)) × (result ≤ spec.cap + 1) }
 {
-    if v < 1_000_000_000_000_000_000 {
+    if v < CAP / 10 {
         10 * v + d
     } else {
         CAP + d % 2
@@ -38,14 +26,11 @@ pub(crate) fn digits_on(text: &[u8], v: u64) -> Result<u64, Refusal>
     ensures { reply result ≡ spec.digits_of v text.now }
 {
     let mut n = v;
-    let mut i = 0;
-    while i < text.len() {
-        let b = text[i];
-        if !is_digit(b) {
+    for b in text {
+        if !b.is_ascii_digit() {
             return Err(Refusal::BadText);
         }
-        n = written_on(n, wide(b) - 48);
-        i += 1;
+        n = written_on(n, u64::from(*b - b'0'));
     }
     Ok(n)
 }
@@ -54,7 +39,7 @@ pub(crate) fn digits_on(text: &[u8], v: u64) -> Result<u64, Refusal>
 pub fn whole(text: &[u8]) -> Result<u64, Refusal>
     ensures { reply result ≡ spec.whole_of text.now }
 {
-    if text.len() < 1 {
+    if text.is_empty() {
         return Err(Refusal::BadText);
     }
     digits_on(text, 0)
