@@ -3,7 +3,12 @@ use mathlib.Core.Path.{◌≡◌, refl, sym, ap}
 use mathlib.Core.Bool.{Bool, true, false, ◌&&◌, false≢true}
 use Prim.Native.Nat.{ℕ}
 use native.Mathlib.Omega.{arith}
-use Rattle.real.specs.Reply.{Reply, refused, given, check, and_then}
+use Rattle.std.specs.Prelude.{Result}
+use Rattle.std.specs.Result.{IsErr, IsErrAnd}
+use Rattle.std.proofs.lemmas.Result.{err_from_is_err_and}
+use Rattle.real.specs.Refusal.{number_of}
+use Rattle.real.specs.Reply.{Reply, refused, given, check, and_then, reply, reply_by}
+use Rattle.real.specs.declared.refusal.Refusal.{Refusal}
 
 pub same_given : {A : Type 0} {x y : A} → given x ≡ given y → x ≡ y
 same_given e = cc
@@ -46,3 +51,10 @@ pub joined : {A B C : Type 0} (x : Reply A) (f : A → Reply B) (h : B → Reply
 unfolding and_then
 joined (given a) f h k e = e a
 joined (refused n) f h k e = refl
+
+-- what `?` hands on is refused with the same number
+pub handed : {A : Type 0} (r : Result A Refusal) (e : Refusal) → IsErr r × IsErrAnd r (λ (x : Refusal). x ≡ e) → reply r ≡ refused (number_of e)
+handed r e h = let p = err_from_is_err_and r h.1 in rw (p.1, p.2) refl
+
+pub handed_by : {A B : Type 0} (f : A → B) (r : Result A Refusal) (e : Refusal) → IsErr r × IsErrAnd r (λ (x : Refusal). x ≡ e) → reply_by f r ≡ refused (number_of e)
+handed_by f r e h = let p = err_from_is_err_and r h.1 in rw (p.1, p.2) refl
