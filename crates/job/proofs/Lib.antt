@@ -11,5 +11,4 @@ mod Parting
 pub mod Whole
 pub mod OldSheets
 pub mod RetiredSheets
-pub mod Same
 pub mod Example

@@ -13,4 +13,6 @@ mod size;
 
 pub use part::{refused_sheet, sheet_part};
 pub use sheet::{Opened, open_sheet};
-pub use size::{HEADER_BYTES, LIST_NUMBERS, OUTLINE_NUMBERS, PART_BYTES, SHEET_BYTES, VERTEX_BYTES};
+pub use size::{
+    HEADER_BYTES, LIST_NUMBERS, OUTLINE_NUMBERS, PART_BYTES, SHEET_BYTES, VERTEX_BYTES,
+};

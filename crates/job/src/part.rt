@@ -69,7 +69,7 @@ fn put_cut(
     requires { (k < 10000) × (number < 10000) × (views.Lists outline.now d (length list.old)) }
     ensures { (views.Part out.old (views.mark_text outline.now d k number cut) out.new result) × (list.new ≡ written double outline.now d list.old) }
 {
-    d.list(outline, list);
+    let _ = d.list(outline, list);
     let count = d.end_index_offset + 2;
     let e = put_view_line(out, k, number, Mark::Cut, count, d.cut_number);
     put_rows(out, e, list, count)

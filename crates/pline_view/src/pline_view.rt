@@ -4,6 +4,8 @@ ghost use Rattle.real.specs.Reply.{reply};
 ghost use Rattle.plane.specs.Grade.{double};
 ghost use Rattle.view.specs.Answers.{get_vertex_of, vertex_count_of};
 
+use plane::PlineVertex;
+use real::Refusal;
 use view::PlineViewData;
 
 #[derive(Clone, Copy)]
@@ -36,7 +38,11 @@ impl<'a> PlineView<'a> {
 }
 
 // The vertex at a position, by a `PlineView` that is put together for it.
-pub fn vertex_through_view(source: &[f64], data: PlineViewData, index: usize) -> Result<PlineVertex, Refusal>
+pub fn vertex_through_view(
+    source: &[f64],
+    data: PlineViewData,
+    index: usize,
+) -> Result<PlineVertex, Refusal>
     ensures { reply result ≡ get_vertex_of double source.now «data» index }
 {
     PlineView::new(source, data).get(index)

@@ -1,4 +1,3 @@
 -- The theorems: Records, Same.
 mod Past
 pub mod Records
-pub mod Same

@@ -22,13 +22,6 @@ use Rattle.view.proofs.All.{all_each}
 no_refusal : {A : Type 0} (m : ℕ) (rest : Reply A) → refused m ≡ pass → refused m ≡ rest
 no_refusal m rest e = never_given e
 
--- the two cases of the code's answer to a check
-pub told_refused : {m : ℕ} {r : Check} {x : Reply (Unit {0})} → r ≡ check-case.Refused m → reply r ≡ x → refused m ≡ x
-told_refused t e = ap reply (sym t) ∙ e
-
-pub told_passed : {r : Check} {x : Reply (Unit {0})} → r ≡ check-case.Passed → reply r ≡ x → pass ≡ x
-told_passed t e = ap reply (sym t) ∙ e
-
 pub few_of_whole : (s : List Float) → whole_outline (length s) ≡ true → count_of s ≤ most_vertices
 unfolding whole_outline
 few_of_whole s e = leb-true _ _ (and_both (eqb (length s % 3) 0) _ e).1

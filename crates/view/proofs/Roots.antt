@@ -8,7 +8,9 @@ use native.Mathlib.Omega.{arith}
 use lib.Dec.{ltb, eqb}
 use lib.ListN.{length}
 use lib.Ieee.{Float}
-use Rattle.real.specs.Reply.{Reply, refused, given}
+use Rattle.std.specs.Prelude.{Result}
+use Rattle.real.specs.Reply.{Reply, refused, given, reply_by}
+use Rattle.real.specs.declared.refusal.Refusal.{Refusal}
 use Rattle.real.specs.Tally.{Tally, tally, plain, counting}
 use Rattle.plane.specs.Grade.{Grade}
 use Rattle.plane.specs.Range.{whole_outline, limit_ok}
@@ -23,10 +25,10 @@ use Rattle.lists.specs.View.{wrapped}
 use Rattle.view.specs.Outline.{vertex_value, vertex_past_of, count_of, numbers_ok}
 use Rattle.view.specs.Record.{record_ok}
 use Rattle.view.specs.Segment.{near_end, near_closest_by, on_segment_by, on_outline_by}
-use Rattle.view.specs.Validation.{Verdict, validation_reply, start_off, end_off, end_on_vertex, bulges_differ, valid, bulges_match_of, end_verdict, placed_by, counts_by, validate_by, validate_of, validate_counted}
+use Rattle.view.specs.Validation.{Verdict, start_off, end_off, end_on_vertex, bulges_differ, valid, bulges_match_of, end_verdict, placed_by, counts_by, validate_by, validate_of, validate_counted, judged_tally}
 use Rattle.view.specs.Roots.{uncounted, test_roots, TestRoots, RootsTaken}
 use Rattle.view.specs.declared.view_data.PlineViewData.{PlineViewData}
-use Rattle.view.specs.declared.validation.ValidationAnswer.{ValidationAnswer}
+use Rattle.view.specs.declared.validation.Judgement.{Judgement}
 
 uncounted_chosen : {A : Type 0} (b : Bool) (x y : Reply (Tally A)) → uncounted (cond b x y) ≡ cond b (uncounted x) (uncounted y)
 uncounted_chosen true x y = refl
@@ -171,8 +173,8 @@ module _ (g : Grade) (limit : Float) where
     verdicts_stay = simp (uncounted_chosen, placed_value)
 
     -- what an answer of the code says of the verdict alone
-    pub verdict_told : {a b : ValidationAnswer} → validation_reply a ≡ validate_counted g limit s d → a ≡ b → validate_of g limit s d ≡ uncounted (validation_reply b)
-    verdict_told e f = sym verdicts_stay ∙ ap uncounted (sym e) ∙ ap (λ (a : ValidationAnswer). uncounted (validation_reply a)) f
+    pub verdict_told : (a : Result Judgement Refusal) → reply_by judged_tally a ≡ validate_counted g limit s d → validate_of g limit s d ≡ uncounted (reply_by judged_tally a)
+    verdict_told a e = sym verdicts_stay ∙ ap uncounted (sym e)
 
     abbrev start_roots : ℕ
     start_roots = test_roots g limit s d.start_index first

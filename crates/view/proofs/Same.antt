@@ -5,23 +5,18 @@ use Prim.Native.Nat.{ℕ}
 use lib.Dec.{eqb}
 use lib.ListN.{get_or}
 use lib.Ieee.{Float, nan}
-use Rattle.real.specs.Reply.{refused, given, reply}
-use Rattle.real.proofs.Same.{told}
+use Rattle.std.specs.Prelude.{Result}
+use Rattle.real.specs.Reply.{reply_by}
+use Rattle.real.specs.Tally.{Tally}
+use Rattle.real.specs.declared.refusal.Refusal.{Refusal}
+use Rattle.real.proofs.Same.{reply_by_same}
 use Rattle.plane.specs.declared.vector2.Vector2.{Vector2}
-use Rattle.view.specs.Validation.{Verdict, verdict_of, validation_reply, cut, hold, mark_reply}
+use Rattle.view.specs.Validation.{Verdict, verdict_of, judged_tally, MarkCase, cut, hold, mark_case}
 use Rattle.view.specs.declared.validation.ViewDataValidation.{ViewDataValidation}
 use Rattle.view.specs.declared.validation.ViewDataValidation.TheVariants as crate
-use Rattle.view.specs.declared.validation.ValidationAnswer.{ValidationAnswer}
-use Rattle.view.specs.declared.validation.ValidationAnswer.TheVariants as validation
+use Rattle.view.specs.declared.validation.Judgement.{Judgement}
+use Rattle.view.specs.declared.validation.Mark.{Mark}
 use Rattle.view.specs.declared.validation.Mark.TheVariants as case
-use Rattle.view.specs.declared.validation.MarkAnswer.{MarkAnswer}
-use Rattle.view.specs.declared.validation.MarkAnswer.TheVariants as mark
-
-pub view_same : (a b : ViewAnswer) → reply a ≡ reply b → a ≡ b
-view_same = told (elim [ given d ↦ view.Given d | refused n ↦ view.Refused n ]) (elim [ view.Given d ↦ refl | view.Refused n ↦ refl ])
-
-pub count_same : (a b : CountAnswer) → reply a ≡ reply b → a ≡ b
-count_same = told (elim [ given n ↦ count.Given n | refused n ↦ count.Refused n ]) (elim [ count.Given n ↦ refl | count.Refused n ↦ refl ])
 
 -- a verdict's number and values tell its case
 case_of : Verdict → ViewDataValidation
@@ -46,12 +41,14 @@ case_of_verdict (crate.EndPointOnFinalOffsetVertex p v) = refl
 case_of_verdict (crate.UpdatedBulgeDoesNotMatch b e) = refl
 case_of_verdict crate.IsValid = refl
 
-pub validation_same : (a b : ValidationAnswer) → validation_reply a ≡ validation_reply b → a ≡ b
+pub validation_same : (a b : Result Judgement Refusal) → reply_by judged_tally a ≡ reply_by judged_tally b → a ≡ b
 validation_same =
-    told (elim [ given t ↦ validation.Given (record { verdict = case_of t.value; roots = t.roots }) | refused n ↦ validation.Refused n ])
-    (elim [ validation.Given j ↦ ap (λ (v : ViewDataValidation). validation.Given (record { verdict = v; roots = j.roots })) (case_of_verdict j.verdict) | validation.Refused n ↦ refl ])
+    reply_by_same judged_tally (λ (t : Tally Verdict). record { verdict = case_of t.value; roots = t.roots })
+    (λ (j : Judgement). ap {B = Judgement} (λ (v : ViewDataValidation). record { verdict = v; roots = j.roots }) (case_of_verdict j.verdict))
 
-pub mark_same : (a b : MarkAnswer) → mark_reply a ≡ mark_reply b → a ≡ b
-mark_same =
-    told (elim [ given cut ↦ mark.Given case.Cut | given hold ↦ mark.Given case.Hold | refused n ↦ mark.Refused n ])
-    (elim [ mark.Given case.Cut ↦ refl | mark.Given case.Hold ↦ refl | mark.Refused n ↦ refl ])
+abbrev marked : MarkCase → Mark
+marked cut = case.Cut
+marked hold = case.Hold
+
+pub mark_same : (a b : Result Mark Refusal) → reply_by mark_case a ≡ reply_by mark_case b → a ≡ b
+mark_same = reply_by_same mark_case marked (elim [ case.Cut ↦ refl | case.Hold ↦ refl ])

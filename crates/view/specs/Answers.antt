@@ -10,7 +10,6 @@ use Rattle.view.specs.Record.{turned_of, trimmed_of, vertices, needed, record_ve
 use Rattle.view.specs.Check.{place_of, check_of, even_of}
 use Rattle.view.specs.declared.view_data.PlineViewData.{PlineViewData}
 
--- the code's answers as replies
 -- what a buffer holds after a call: "a refused call writes nothing"
 unfoldable pub buffer_after : {A : Type 0} → Reply A → List Float → List Float → List Float
 buffer_after (refused n) before after = before

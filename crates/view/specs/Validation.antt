@@ -17,12 +17,8 @@ use Rattle.view.specs.declared.view_data.PlineViewData.{PlineViewData}
 use Rattle.view.specs.declared.validation.ViewDataValidation.{ViewDataValidation}
 use Rattle.view.specs.declared.validation.ViewDataValidation.TheVariants as crate
 use Rattle.view.specs.declared.validation.Judgement.{Judgement}
-use Rattle.view.specs.declared.validation.ValidationAnswer.{ValidationAnswer}
-use Rattle.view.specs.declared.validation.ValidationAnswer.TheVariants as validation
 use Rattle.view.specs.declared.validation.Mark.{Mark}
 use Rattle.view.specs.declared.validation.Mark.TheVariants as case
-use Rattle.view.specs.declared.validation.MarkAnswer.{MarkAnswer}
-use Rattle.view.specs.declared.validation.MarkAnswer.TheVariants as mark
 
 -- document 01's number, and the counts and the floats in the crate's order
 pub record Verdict : Type 0 where
@@ -67,11 +63,6 @@ verdict_of crate.IsValid = valid
 -- a verdict, and the roots that it took
 abbrev pub judged_tally : Judgement → Tally Verdict
 judged_tally j = tally (verdict_of j.verdict) j.roots
-
--- "a refused call reports no count"
-abbrev pub validation_reply : ValidationAnswer → Reply (Tally Verdict)
-validation_reply (validation.Given j) = given (judged_tally j)
-validation_reply (validation.Refused n) = refused n
 
 module _ (g : Grade) where
   -- on one segment, "whether the updated bulge matches the updated start's"
@@ -134,10 +125,6 @@ pub data MarkCase : Type 0 where
 abbrev pub mark_case : Mark → MarkCase
 mark_case case.Cut = cut
 mark_case case.Hold = hold
-
-abbrev pub mark_reply : MarkAnswer → Reply MarkCase
-mark_reply (mark.Given m) = given (mark_case m)
-mark_reply (mark.Refused n) = refused n
 
 -- "On an open outline [...] when start index plus offset reaches the vertex count less 1 or more": the sum is not wrapped
 unfoldable pub across_gap : Bool → List Float → PlineViewData → Bool

@@ -67,10 +67,7 @@ pub fn check_view(source: &[f64], d: PlineViewData) -> Result<(), Refusal>
 pub fn check_even(source: &[f64], d: PlineViewData) -> Result<(), Refusal>
     ensures { reply result ≡ even_of double source.now d pass }
 {
-    let checked = check_view(source, d);
-    if let Err(n) = checked {
-        return Err(n);
-    }
+    check_view(source, d)?;
     if !has_even_bulges(d) {
         return Err(Refusal::UnevenBulges);
     }

@@ -73,7 +73,13 @@ fn find_end(
 }
 
 // The record, unless its offset is above the vertex count.
-fn ended_at(source: &[f64], start: usize, p: Vector2, first: PlineVertex, e: Ending) -> Result<PlineViewData, Refusal>
+fn ended_at(
+    source: &[f64],
+    start: usize,
+    p: Vector2,
+    first: PlineVertex,
+    e: Ending,
+) -> Result<PlineViewData, Refusal>
     ensures { reply result ≡ ended_at_of source.now start p first e }
 {
     let offset = e.offset;

@@ -1,16 +1,17 @@
 // The crate's `validate_for_source`, and the mark.
+ghost use Rattle.real.specs.Reply.{reply_by};
 ghost use Rattle.std.specs.Prelude.{◌≡◌, ◌+◌, ◌≤◌};
 ghost use Rattle.real.specs.Tally.{tally, counting};
 ghost use Rattle.plane.specs.Grade.{double};
 ghost use Rattle.plane.specs.Range.{most_vertices};
 ghost use Rattle.view.specs.Outline.{count_of};
 ghost use Rattle.view.specs.Needs.{Placed, FewRoots};
-ghost use Rattle.view.specs.Validation.{verdict_of, judged_tally, validation_reply, bulges_match_of, end_verdict, placed_by, counts_by, validate_of, validate_counted, mark_reply, mark_answer};
+ghost use Rattle.view.specs.Validation.{verdict_of, judged_tally, bulges_match_of, end_verdict, placed_by, counts_by, validate_of, validate_counted, mark_answer, mark_case};
 
 use crate::check::numbers_in_range;
 use crate::outline::{fwd_wrapping_index, vertex_at};
 use crate::segment::{ON_VERTEX, RootedTest, point_is_on_segment};
-use crate::validation::{Judgement, ViewDataValidation};
+use crate::validation::{Judgement, Mark, ViewDataValidation};
 use crate::view_data::PlineViewData;
 use plane::{PlineVertex, fuzzy_eq_eps, limit_in_range, outline_is_whole};
 use real::Refusal;
@@ -87,7 +88,7 @@ fn judge(source: &[f64], d: PlineViewData, limit: f64) -> Judgement
 // Verdicts 1 and 2, then refusal 4, then the others.
 fn judge_counts(source: &[f64], d: PlineViewData, limit: f64) -> Result<Judgement, Refusal>
     requires { count_of source.now ≤ most_vertices }
-    ensures { validation_reply result ≡ counts_by counting double limit source.now d }
+    ensures { reply_by judged_tally result ≡ counts_by counting double limit source.now d }
 {
     let count = source.len() / 3;
     let offset = d.end_index_offset;
@@ -116,7 +117,7 @@ fn judge_counts(source: &[f64], d: PlineViewData, limit: f64) -> Result<Judgemen
 impl PlineViewData {
     // The crate's verdict on the record over an outline, and how many square roots it took.
     pub fn validate_for_source(self, source: &[f64], limit: f64) -> Result<Judgement, Refusal>
-        ensures { validation_reply result ≡ validate_counted double limit source.now self }
+        ensures { reply_by judged_tally result ≡ validate_counted double limit source.now self }
     {
         if !outline_is_whole(source) {
             return Err(Refusal::BadOutline);
@@ -132,15 +133,9 @@ impl PlineViewData {
 
     // Whether the view is cut or held.
     pub fn mark(self, source: &[f64], closed: bool, limit: f64) -> Result<Mark, Refusal>
-        ensures { mark_reply result ≡ mark_answer closed source.now self (validate_of double limit source.now self) }
+        ensures { reply_by mark_case result ≡ mark_answer closed source.now self (validate_of double limit source.now self) }
     {
-        let answer = self.validate_for_source(source, limit);
-        match answer {
-            Ok(judged) => {
-                let verdict = judged.verdict;
-                Ok(verdict.mark(self, source, closed))
-            }
-            Err(n) => Err(n),
-        }
+        let judged = self.validate_for_source(source, limit)?;
+        Ok(judged.verdict.mark(self, source, closed))
     }
 }

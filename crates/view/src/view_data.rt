@@ -36,10 +36,7 @@ impl PlineViewData {
         if !serves_views(source) {
             return Err(Refusal::BadOutline);
         }
-        let place = check_place(source, self);
-        if let Err(n) = place {
-            return Err(n);
-        }
+        check_place(source, self)?;
         let offset = self.end_index_offset;
         if index >= offset + 2 {
             return Err(Refusal::BadIndex);
@@ -54,10 +51,7 @@ impl PlineViewData {
     pub fn vertex_count(self, source: &[f64]) -> Result<usize, Refusal>
         ensures { reply result ≡ vertex_count_of double source.now self }
     {
-        let checked = check_view(source, self);
-        if let Err(n) = checked {
-            return Err(n);
-        }
+        check_view(source, self)?;
         let offset = self.end_index_offset;
         Ok(offset + 2)
     }
@@ -66,10 +60,7 @@ impl PlineViewData {
     pub fn list(self, source: &[f64], out: &mut [f64]) -> Result<usize, Refusal>
         ensures { (reply result ≡ list_of double source.now self (length out.old)) × (out.new ≡ list_buffer double source.now self out.old) }
     {
-        let checked = check_view(source, self);
-        if let Err(n) = checked {
-            return Err(n);
-        }
+        check_view(source, self)?;
         let offset = self.end_index_offset;
         let count = offset + 2;
         if out.len() < 3 * count {
@@ -83,23 +74,18 @@ impl PlineViewData {
     pub fn reverse(self, source: &[f64]) -> Result<PlineViewData, Refusal>
         ensures { reply result ≡ reverse_of double source.now self }
     {
-        let checked = check_even(source, self);
-        if let Err(n) = checked {
-            return Err(n);
-        }
-        let mut r = self;
-        r.inverted_direction = !self.inverted_direction;
-        Ok(r)
+        check_even(source, self)?;
+        Ok(PlineViewData {
+            inverted_direction: !self.inverted_direction,
+            ..self
+        })
     }
 
     // Positions i to j of the view.
     pub fn trim(self, source: &[f64], i: usize, j: usize) -> Result<PlineViewData, Refusal>
         ensures { reply result ≡ trim_of double source.now self i j }
     {
-        let checked = check_even(source, self);
-        if let Err(n) = checked {
-            return Err(n);
-        }
+        check_even(source, self)?;
         let offset = self.end_index_offset;
         if !both_less(i, j, j, offset + 2) {
             return Err(Refusal::BadTrim);

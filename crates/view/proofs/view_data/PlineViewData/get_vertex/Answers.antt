@@ -10,6 +10,7 @@ use borrow.Author.Tests.{lt-ltb, le-ltb}
 use Rattle.real.specs.Refusal.{bad_number, bad_index}
 use Rattle.real.specs.Reply.{Reply, given, check}
 use Rattle.real.proofs.Pick.{bad, good, passed}
+use Rattle.real.proofs.Replies.{handed}
 use Rattle.plane.specs.Grade.{double}
 use Rattle.plane.specs.declared.pline_vertex.PlineVertex.{PlineVertex}
 use Rattle.view.specs.Outline.{viewable}
@@ -17,9 +18,9 @@ use Rattle.view.specs.Record.{vertices, record_vertex_of, record_ok, reads_ok}
 use Rattle.view.specs.Needs.{Placed, PlacedAt}
 use Rattle.view.specs.Answers.{get_vertex_of}
 use Rattle.view.specs.declared.view_data.PlineViewData.{PlineViewData}
-use Rattle.view.proofs.Checks.{told_refused, told_passed, place_placed, place_rest, place_refused}
+use Rattle.view.proofs.Checks.{place_placed, place_rest, place_refused}
 use Rattle.view.proofs.view_data.PlineViewData.get_vertex.Goals as goal
-use Rattle.view.proofs.view_data.PlineViewData.get_vertex.Goals.{In_default}
+use Rattle.view.proofs.view_data.PlineViewData.get_vertex.Goals.{In_ok-check_place}
 
 -- the definition's last link
 abbrev last : List Float → PlineViewData → ℕ → Reply PlineVertex
@@ -34,41 +35,41 @@ found : (s : List Float) (d : PlineViewData) (k : ℕ) → viewable s ≡ true �
 found s d k v p = simp (lt-ltb _ _ p.position) at (past s d k v p.placed)
 
 -- what the first guard and the place's check say of the outline and the view
-seen : (c : In_default) → viewable c.args.source.now ≡ true
+seen : (c : In_ok-check_place) → viewable c.args.source.now ≡ true
 seen c = passed c.serves_views.ensures c.if-not-serves_views.false
 
-placed : (c : In_default) → Placed c.args.source.now c.args.self
-placed c = place_placed _ _ _ (seen c) (told_passed c.in_default.is c.check_place-place.ensures)
+placed : (c : In_ok-check_place) → Placed c.args.source.now c.args.self
+placed c = place_placed _ _ _ (seen c) (c.in_ok-check_place.ensures)
 
 pub returns-then-not-serves_views : goal.returns-then-not-serves_views
 unfolding get_vertex_of
 returns-then-not-serves_views c = bad _ c.serves_views.ensures c.if-not-serves_views.true refl
 
-pub returns-in-Err : goal.returns-in-Err
+pub returns-in_err-check_place : goal.returns-in_err-check_place
 unfolding get_vertex_of
-returns-in-Err c =
-    good _ c.serves_views.ensures c.if-not-serves_views.false (place_refused _ _ _ _ (told_refused c.in-Err.is c.check_place-place.ensures))
+returns-in_err-check_place c =
+    good _ c.serves_views.ensures c.if-not-serves_views.false (handed _ _ c.from_residual.ensures ∙ place_refused _ _ _ _ c.in_err-check_place.ensures)
 
 pub returns-then-index-offset : goal.returns-then-index-offset
 returns-then-index-offset c =
-    let at = (goal.at.returns-then-index-offset c).In_default in
+    let at = (goal.at.returns-then-index-offset c).In_ok-check_place in
     simp (le-ltb _ _ c.if-index-offset.true) at (past c.args.source.now c.args.self c.args.index (seen at) (placed at))
 
 pub returns-then-not-lookup_in_range : goal.returns-then-not-lookup_in_range
 returns-then-not-lookup_in_range c =
-    let at = (goal.at.returns-then-not-lookup_in_range c).In_default in
+    let at = (goal.at.returns-then-not-lookup_in_range c).In_ok-check_place in
     bad _ c.lookup_in_range.ensures c.if-not-lookup_in_range.true refl ∙ found _ _ _ (seen at) (record { placed = placed at; position = c.if-index-offset.false })
 
 pub returns : goal.returns
 returns c =
-    let at = (goal.at.returns c).In_default in
+    let at = (goal.at.returns c).In_ok-check_place in
     good _ c.lookup_in_range.ensures c.if-not-lookup_in_range.false (rw c.vertex_of.ensures) ∙ found _ _ _ (seen at) (record { placed = placed at; position = c.if-index-offset.false })
 
 pub overflow_add-offset : goal.overflow_add-offset
 overflow_add-offset c = omega (arith, placed c)
 
 pub lookup_in_range-requires : goal.lookup_in_range-requires
-lookup_in_range-requires c = record { placed = placed (goal.at.lookup_in_range-requires c).In_default; position = c.if-index-offset.false }
+lookup_in_range-requires c = record { placed = placed (goal.at.lookup_in_range-requires c).In_ok-check_place; position = c.if-index-offset.false }
 
 pub vertex_of-requires : goal.vertex_of-requires
-vertex_of-requires c = record { placed = placed (goal.at.vertex_of-requires c).In_default; position = c.if-index-offset.false }
+vertex_of-requires c = record { placed = placed (goal.at.vertex_of-requires c).In_ok-check_place; position = c.if-index-offset.false }
