@@ -3,7 +3,7 @@
 use Rattle.std.specs.Prelude.{ℕ, ◌+◌, Float}
 use Rattle.std.specs.Float.{Format}
 use Rattle.real.specs.Root.{root_of}
-use Rattle.real.specs.declared.square_root.RootedNumber.{RootedNumber}
+use Rattle.real.specs.declared.square_root.Rooted.{Rooted}
 
 -- a value, and how many roots were taken for it
 pub record Tally (A : Type 0) : Type 0 where
@@ -34,6 +34,6 @@ counting =
       ◌>>=◌ = λ step rest. let next = rest step.value in tally next.value (step.roots + next.roots);
     }
 
--- the code's answer: a number, and the roots that it took
-abbrev pub number_tally : RootedNumber → Tally Float
-number_tally r = tally r.number r.roots
+-- the code's answer: a value, and the roots that it took
+abbrev pub tally_of : {A : Type 0} → Rooted A → Tally A
+tally_of r = tally r.value r.roots

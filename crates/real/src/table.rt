@@ -15,27 +15,12 @@ const ROOTS: [u16; 97] = [
     32121, 32251, 32381, 32510, 32639, 32768,
 ];
 
-#[derive(Clone, Copy)]
-pub struct Pair {
-    pub a: u64,
-    pub b: u64,
-}
-
-fn wide(x: u16) -> u64
-    ensures { result ≡ x }
-{
-    x as u64
-}
-
 // The roots of (32 + i) * 2^23 and of the next such number.
-pub fn tabled(i: usize) -> Pair
+pub fn tabled(i: usize) -> (u64, u64)
     requires { i < 96 }
-    ensures here { result.a ≡ isqrt ((32 + i) * 2 ^ 23) }
-    ensures next { result.b ≡ isqrt ((32 + (i + 1)) * 2 ^ 23) }
+    ensures here { result.0 ≡ isqrt ((32 + i) * 2 ^ 23) }
+    ensures next { result.1 ≡ isqrt ((32 + (i + 1)) * 2 ^ 23) }
 {
     let t = ROOTS;
-    Pair {
-        a: wide(t[i]),
-        b: wide(t[i + 1]),
-    }
+    (u64::from(t[i]), u64::from(t[i + 1]))
 }

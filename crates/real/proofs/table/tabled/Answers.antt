@@ -10,6 +10,6 @@ pub returns : goal.returns
 unfolding isqrt
 returns c =
     let i = c.args.i in record {
-      here = c.wide.ensures ∙ listed_at (λ j. isqrt (j * 2 ^ 23)) 32 97 i (omega (arith, c.requires));
-      next = c.wide-2.ensures ∙ listed_at (λ j. isqrt (j * 2 ^ 23)) 32 97 (i + 1) (omega (arith, c.requires));
+      here = c.from.ensures ∙ listed_at (λ j. isqrt (j * 2 ^ 23)) 32 97 i (omega (arith, c.requires));
+      next = c.from-2.ensures ∙ listed_at (λ j. isqrt (j * 2 ^ 23)) 32 97 (i + 1) (omega (arith, c.requires));
     }
