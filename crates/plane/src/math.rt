@@ -26,7 +26,7 @@ pub fn min_max(a: f64, b: f64) -> MinMax
 pub fn dist_squared(a: Vector2, b: Vector2) -> f64
     ensures { result ≡ dist_sq_of double a b }
 {
-    a.sub(b).length_squared()
+    (a - b).length_squared()
 }
 
 pub fn midpoint(a: Vector2, b: Vector2) -> Vector2
@@ -59,9 +59,9 @@ pub fn point_within_arc_sweep(
 ) -> bool
     ensures { result ≡ in_sweep_of double center start end clockwise point eps }
 {
-    let offset = point.sub(center);
-    let a = start.sub(center).perp_dot(offset);
-    let b = end.sub(center).perp_dot(offset);
+    let offset = point - center;
+    let a = (start - center).perp_dot(offset);
+    let b = (end - center).perp_dot(offset);
     in_sweep(clockwise, a, b, eps)
 }
 
@@ -81,14 +81,14 @@ fn line_closest(
     if chord_length_squared < projection + FUZZ {
         return end;
     }
-    start.add(chord.scale(projection / chord_length_squared))
+    start + chord.scale(projection / chord_length_squared)
 }
 
 // The point of a line segment that is closest to a point.
 pub fn line_seg_closest_point(start: Vector2, end: Vector2, point: Vector2) -> Vector2
     ensures { result ≡ line_nearest double start end point }
 {
-    let chord = end.sub(start);
-    let projection = point.sub(start).dot(chord);
+    let chord = end - start;
+    let projection = (point - start).dot(chord);
     line_closest(start, end, chord, chord.length_squared(), projection)
 }

@@ -13,11 +13,6 @@ use Rattle.plane.specs.Range.{tol_ok, limit_ok, point_ok, seg_ok}
 use Rattle.plane.specs.declared.vector2.Vector2.{Vector2}
 use Rattle.plane.specs.declared.pline_vertex.PlineVertex.{PlineVertex}
 use Rattle.seg.specs.Arc.{chord_of, inv_four_bulge_of, center_of, sweeps_over_of}
-use Rattle.seg.specs.declared.closest.RootedPoint.{RootedPoint}
-
--- the code's answer: a point, and the roots that it took
-abbrev pub point_tally : RootedPoint → Tally Vector2
-point_tally c = tally c.point c.roots
 
 abbrev pub nearer_of : Grade → Vector2 → Vector2 → Vector2 → Bool
 nearer_of g a b p = lt (dist_sq_of g a p) (dist_sq_of g b p)

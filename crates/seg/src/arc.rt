@@ -18,7 +18,7 @@ pub struct Circle {
 pub fn chord(v1: PlineVertex, v2: PlineVertex) -> Vector2
     ensures { result ≡ chord_of double v1 v2 }
 {
-    v2.pos().sub(v1.pos())
+    v2.pos() - v1.pos()
 }
 
 // Whether the two ends are fuzzily equal.
@@ -58,7 +58,7 @@ pub fn arc_center(v1: PlineVertex, v2: PlineVertex) -> Vector2
     let rise = c
         .perp()
         .scale((1.0 - bulge) * (1.0 + bulge) * inv_four_bulge(bulge));
-    v1.pos().add(half).add(rise)
+    v1.pos() + half + rise
 }
 
 pub fn arc_circle(v1: PlineVertex, v2: PlineVertex) -> Circle

@@ -77,7 +77,7 @@ fn arc_crossings(v1: PlineVertex, v2: PlineVertex) -> Crossings
     let c = chord(v1, v2);
     let scaled_perp = c.perp().scale(bulge * bulge - 1.0);
     let scaled_chord = c.scale(2.0 * bulge);
-    find_crossings(scaled_perp.sub(scaled_chord), scaled_perp.add(scaled_chord))
+    find_crossings(scaled_perp - scaled_chord, scaled_perp + scaled_chord)
 }
 
 fn crosses(c: Crossings) -> bool

@@ -1,53 +1,45 @@
 // The point of a segment that is closest to a point.
 ghost use Rattle.std.specs.Prelude.{◌≡◌};
 ghost use Rattle.real.specs.Reply.{reply};
-ghost use Rattle.real.specs.Tally.{counting, number_tally};
+ghost use Rattle.real.specs.Tally.{counting, tally_of};
 ghost use Rattle.plane.specs.Grade.{double};
 ghost use Rattle.plane.specs.Vertex.{pos_of};
-ghost use Rattle.seg.specs.Closest.{point_tally, radial_scale_by, radial_by, nearer_of, arc_closest_by, closest_by, closest_of, seg_closest};
+ghost use Rattle.seg.specs.Closest.{radial_scale_by, radial_by, nearer_of, arc_closest_by, closest_by, closest_of, seg_closest};
 
 use crate::arc::{arc_center, chord, inv_four_bulge, sweeps_over};
 use plane::{
     PlineVertex, Vector2, dist_squared, line_seg_closest_point, point_in_range, seg_in_range,
     tol_and_limit_in_range,
 };
-use real::{Refusal, RootedNumber, counted_root, magnitude};
-
-// A point, and how many square roots were taken for it.
-#[derive(Clone, Copy)]
-pub struct RootedPoint {
-    pub point: Vector2,
-    pub roots: u8,
-}
+use real::{Refusal, Rooted, counted_root, magnitude};
 
 // A vertex's own point takes none.
-fn at_vertex(v: PlineVertex) -> RootedPoint
-    ensures { point_tally result ≡ counting.done (pos_of v) }
+fn at_vertex(v: PlineVertex) -> Rooted<Vector2>
+    ensures { tally_of result ≡ counting.done (pos_of v) }
 {
-    let point = v.pos();
-    RootedPoint { point, roots: 0 }
+    Rooted::done(v.pos())
 }
 
 // What the radial is scaled by to reach the arc, from the squared chord c2 and the squared radial r2.
-fn radius_to_radial_length(bulge: f64, c2: f64, r2: f64) -> RootedNumber
-    ensures { number_tally result ≡ radial_scale_by counting double bulge c2 r2 }
+fn radius_to_radial_length(bulge: f64, c2: f64, r2: f64) -> Rooted<f64>
+    ensures { tally_of result ≡ radial_scale_by counting double bulge c2 r2 }
 {
     let ratio = counted_root(c2 / r2);
     let bulge_squared = bulge * bulge;
-    RootedNumber {
-        number: ratio.number * (1.0 + bulge_squared) * magnitude(inv_four_bulge(bulge)),
+    Rooted {
+        value: ratio.value * (1.0 + bulge_squared) * magnitude(inv_four_bulge(bulge)),
         roots: ratio.roots,
     }
 }
 
-fn radial_point(v1: PlineVertex, v2: PlineVertex, center: Vector2, p: Vector2) -> RootedPoint
-    ensures { point_tally result ≡ radial_by counting double v1 v2 center p }
+fn radial_point(v1: PlineVertex, v2: PlineVertex, center: Vector2, p: Vector2) -> Rooted<Vector2>
+    ensures { tally_of result ≡ radial_by counting double v1 v2 center p }
 {
-    let radial = p.sub(center);
+    let radial = p - center;
     let c2 = chord(v1, v2).length_squared();
     let k = radius_to_radial_length(v1.bulge, c2, radial.length_squared());
-    RootedPoint {
-        point: radial.scale(k.number).add(center),
+    Rooted {
+        value: radial.scale(k.value) + center,
         roots: k.roots,
     }
 }
@@ -66,8 +58,8 @@ fn arc_closest(
     center: Vector2,
     p: Vector2,
     eps: f64,
-) -> RootedPoint
-    ensures { point_tally result ≡ arc_closest_by counting double v1 v2 center p eps }
+) -> Rooted<Vector2>
+    ensures { tally_of result ≡ arc_closest_by counting double v1 v2 center p eps }
 {
     if p.fuzzy_eq_eps(center, eps) {
         return at_vertex(v1);
@@ -88,14 +80,11 @@ pub fn closest_point(
     p: Vector2,
     eps: f64,
     limit: f64,
-) -> RootedPoint
-    ensures { point_tally result ≡ closest_by counting double limit v1 v2 p eps }
+) -> Rooted<Vector2>
+    ensures { tally_of result ≡ closest_by counting double limit v1 v2 p eps }
 {
     if v1.bulge_is_zero(limit) {
-        return RootedPoint {
-            point: line_seg_closest_point(v1.pos(), v2.pos(), p),
-            roots: 0,
-        };
+        return Rooted::done(line_seg_closest_point(v1.pos(), v2.pos(), p));
     }
     arc_closest(v1, v2, arc_center(v1, v2), p, eps)
 }
@@ -107,9 +96,8 @@ fn closest(v1: PlineVertex, v2: PlineVertex, p: Vector2, eps: f64, limit: f64) -
     if v1.bulge_is_zero(limit) {
         return line_seg_closest_point(v1.pos(), v2.pos(), p);
     }
-    let closest = arc_closest(v1, v2, arc_center(v1, v2), p, eps);
-    let point = closest.point;
-    point
+    let Rooted { value, .. } = arc_closest(v1, v2, arc_center(v1, v2), p, eps);
+    value
 }
 
 pub fn seg_closest_point(

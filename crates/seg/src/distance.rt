@@ -16,15 +16,15 @@ use real::{Refusal, magnitude};
 fn line_far(start: Vector2, end: Vector2, p: Vector2, d2: f64) -> bool
     ensures { result ≡ line_far_of double start end p d2 }
 {
-    let chord = end.sub(start);
-    let point_offset = p.sub(start);
+    let chord = end - start;
+    let point_offset = p - start;
     let projection = point_offset.dot(chord);
     if projection < FUZZ {
         return point_offset.length_squared() > d2;
     }
     let chord_length_squared = chord.length_squared();
     if chord_length_squared < projection + FUZZ {
-        return p.sub(end).length_squared() > d2;
+        return (p - end).length_squared() > d2;
     }
     let cross = point_offset.perp_dot(chord);
     cross * cross > d2 * chord_length_squared

@@ -119,8 +119,8 @@ fn split_arc(v1: PlineVertex, v2: PlineVertex, p: Vector2) -> SplitResult
     ensures { result ≡ split_arc_of double v1 v2 p }
 {
     let whole = chord(v1, v2).length_squared();
-    let chord1 = p.sub(v1.pos()).length_squared();
-    let chord2 = v2.pos().sub(p).length_squared();
+    let chord1 = (p - v1.pos()).length_squared();
+    let chord2 = (v2.pos() - p).length_squared();
     split_chords(v1, p, whole, chord1, chord2)
 }
 

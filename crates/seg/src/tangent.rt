@@ -13,10 +13,8 @@ fn arc_tangent(v1: PlineVertex, v2: PlineVertex, p: Vector2) -> Vector2
 {
     let bulge = v1.bulge;
     let c = chord(v1, v2);
-    let point_offset = p.sub(v1.pos()).scale(2.0).sub(c);
-    let numerator = c
-        .scale((1.0 - bulge) * (1.0 + bulge))
-        .add(point_offset.perp().scale(2.0 * bulge));
+    let point_offset = (p - v1.pos()).scale(2.0) - c;
+    let numerator = c.scale((1.0 - bulge) * (1.0 + bulge)) + point_offset.perp().scale(2.0 * bulge);
     numerator.scale(1.0 / (4.0 * magnitude(bulge)))
 }
 

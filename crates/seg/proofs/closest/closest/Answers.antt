@@ -15,4 +15,4 @@ returns-then-bulge_is_zero c =
 pub returns : goal.returns
 unfolding closest_by
 returns c =
-    no _ c.bulge_is_zero.ensures c.if-bulge_is_zero.false (value_of (rw c.arc_center.ensures at c.arc_closest-closest.ensures) ∙ arc_value double _ _ _ _ _)
+    no _ c.bulge_is_zero.ensures c.if-bulge_is_zero.false (value_of (rw c.arc_center.ensures at c.arc_closest.ensures) ∙ arc_value double _ _ _ _ _)
