@@ -17,7 +17,8 @@ use real::{Refusal, Rooted, counted_root, magnitude};
 fn at_vertex(v: PlineVertex) -> Rooted<Vector2>
     ensures { tally_of result ≡ counting.done (pos_of v) }
 {
-    Rooted::done(v.pos())
+    let value = v.pos();
+    Rooted { value, roots: 0 }
 }
 
 // What the radial is scaled by to reach the arc, from the squared chord c2 and the squared radial r2.
@@ -84,7 +85,10 @@ pub fn closest_point(
     ensures { tally_of result ≡ closest_by counting double limit v1 v2 p eps }
 {
     if v1.bulge_is_zero(limit) {
-        return Rooted::done(line_seg_closest_point(v1.pos(), v2.pos(), p));
+        return Rooted {
+            value: line_seg_closest_point(v1.pos(), v2.pos(), p),
+            roots: 0,
+        };
     }
     arc_closest(v1, v2, arc_center(v1, v2), p, eps)
 }

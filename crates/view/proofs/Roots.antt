@@ -11,6 +11,7 @@ use lib.Ieee.{Float}
 use Rattle.std.specs.Prelude.{Result}
 use Rattle.real.specs.Reply.{Reply, refused, given, reply_by}
 use Rattle.real.specs.declared.refusal.Refusal.{Refusal}
+use Rattle.real.specs.declared.square_root.Rooted.{Rooted}
 use Rattle.real.specs.Tally.{Tally, tally, plain, counting}
 use Rattle.plane.specs.Grade.{Grade}
 use Rattle.plane.specs.Range.{whole_outline, limit_ok}
@@ -27,8 +28,8 @@ use Rattle.view.specs.Record.{record_ok}
 use Rattle.view.specs.Segment.{near_end, near_closest_by, on_segment_by, on_outline_by}
 use Rattle.view.specs.Validation.{Verdict, start_off, end_off, end_on_vertex, bulges_differ, valid, bulges_match_of, end_verdict, placed_by, counts_by, validate_by, validate_of, validate_counted, judged_tally}
 use Rattle.view.specs.Roots.{uncounted, test_roots, TestRoots, RootsTaken}
+use Rattle.view.specs.declared.validation.ViewDataValidation.{ViewDataValidation}
 use Rattle.view.specs.declared.view_data.PlineViewData.{PlineViewData}
-use Rattle.view.specs.declared.validation.Judgement.{Judgement}
 
 uncounted_chosen : {A : Type 0} (b : Bool) (x y : Reply (Tally A)) → uncounted (cond b x y) ≡ cond b (uncounted x) (uncounted y)
 uncounted_chosen true x y = refl
@@ -173,7 +174,7 @@ module _ (g : Grade) (limit : Float) where
     verdicts_stay = simp (uncounted_chosen, placed_value)
 
     -- what an answer of the code says of the verdict alone
-    pub verdict_told : (a : Result Judgement Refusal) → reply_by judged_tally a ≡ validate_counted g limit s d → validate_of g limit s d ≡ uncounted (reply_by judged_tally a)
+    pub verdict_told : (a : Result (Rooted ViewDataValidation) Refusal) → reply_by judged_tally a ≡ validate_counted g limit s d → validate_of g limit s d ≡ uncounted (reply_by judged_tally a)
     verdict_told a e = sym verdicts_stay ∙ ap uncounted (sym e)
 
     abbrev start_roots : ℕ

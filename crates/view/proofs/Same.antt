@@ -9,12 +9,12 @@ use Rattle.std.specs.Prelude.{Result}
 use Rattle.real.specs.Reply.{reply_by}
 use Rattle.real.specs.Tally.{Tally}
 use Rattle.real.specs.declared.refusal.Refusal.{Refusal}
+use Rattle.real.specs.declared.square_root.Rooted.{Rooted}
 use Rattle.real.proofs.Same.{reply_by_same}
 use Rattle.plane.specs.declared.vector2.Vector2.{Vector2}
 use Rattle.view.specs.Validation.{Verdict, verdict_of, judged_tally, MarkCase, cut, hold, mark_case}
 use Rattle.view.specs.declared.validation.ViewDataValidation.{ViewDataValidation}
 use Rattle.view.specs.declared.validation.ViewDataValidation.TheVariants as crate
-use Rattle.view.specs.declared.validation.Judgement.{Judgement}
 use Rattle.view.specs.declared.validation.Mark.{Mark}
 use Rattle.view.specs.declared.validation.Mark.TheVariants as case
 
@@ -41,10 +41,10 @@ case_of_verdict (crate.EndPointOnFinalOffsetVertex p v) = refl
 case_of_verdict (crate.UpdatedBulgeDoesNotMatch b e) = refl
 case_of_verdict crate.IsValid = refl
 
-pub validation_same : (a b : Result Judgement Refusal) → reply_by judged_tally a ≡ reply_by judged_tally b → a ≡ b
+pub validation_same : (a b : Result (Rooted ViewDataValidation) Refusal) → reply_by judged_tally a ≡ reply_by judged_tally b → a ≡ b
 validation_same =
-    reply_by_same judged_tally (λ (t : Tally Verdict). record { verdict = case_of t.value; roots = t.roots })
-    (λ (j : Judgement). ap {B = Judgement} (λ (v : ViewDataValidation). record { verdict = v; roots = j.roots }) (case_of_verdict j.verdict))
+    reply_by_same judged_tally (λ (t : Tally Verdict). record { value = case_of t.value; roots = t.roots })
+    (λ (j : Rooted ViewDataValidation). ap {B = Rooted ViewDataValidation} (λ (v : ViewDataValidation). record { value = v; roots = j.roots }) (case_of_verdict j.value))
 
 abbrev marked : MarkCase → Mark
 marked cut = case.Cut

@@ -1,10 +1,10 @@
 -- What the inner functions ask of their callers, who have made the checks, and what a vertex number is that they hand back.
-use Rattle.std.specs.Prelude.{◌≡◌, ℕ, ◌<◌, ◌≤◌, List, length, Float}
+use Rattle.std.specs.Prelude.{◌≡◌, ℕ, ◌<◌, ◌≤◌, Bool, List, length, Float}
 use Rattle.plane.specs.Range.{most_vertices}
 use Rattle.view.specs.Outline.{count_of}
-use Rattle.view.specs.Record.{vertices, needed}
+use Rattle.view.specs.Record.{vertices}
 use Rattle.view.specs.declared.view_data.PlineViewData.{PlineViewData}
-use Rattle.view.specs.declared.segment.RootedTest.{RootedTest}
+use Rattle.real.specs.declared.square_root.Rooted.{Rooted}
 
 -- an index below the vertex count, and steps of at most one round
 pub record Wraps (index steps n : ℕ) : Type 0 where
@@ -24,19 +24,10 @@ pub record Placed (s : List Float) (d : PlineViewData) : Type 0 where
   pub start : d.start_index < count_of s
   pub offset : d.end_index_offset ≤ count_of s
 
--- and a position of the view; two positions of its forward list; a buffer with room for its list
-pub record PlacedAt (s : List Float) (d : PlineViewData) (k : ℕ) : Type 0 where
-  pub placed : Placed s d
-  pub position : k < vertices d
-
-pub record PlacedPart (s : List Float) (d : PlineViewData) (a b : ℕ) : Type 0 where
-  pub placed : Placed s d
+-- two positions of a view's list, the first before the last
+pub record Positions (d : PlineViewData) (a b : ℕ) : Type 0 where
   pub below : a < b
   pub within : b < vertices d
-
-pub record Room (s : List Float) (d : PlineViewData) (out : List Float) : Type 0 where
-  pub placed : Placed s d
-  pub room : needed d ≤ length out
 
 -- a start and an offset in an outline that is not too long, and a position between the first and the last
 pub record Inner (s : List Float) (start offset k : ℕ) : Type 0 where
@@ -56,6 +47,6 @@ pub record Ends (s : List Float) (at traverse : ℕ) : Type 0 where
   pub some : 0 < traverse
 
 -- the end's test, and the start's roots: at most one each
-pub record FewRoots (ended : RootedTest) (roots : ℕ) : Type 0 where
+pub record FewRoots (ended : Rooted Bool) (roots : ℕ) : Type 0 where
   pub last : ended.roots ≤ 1
   pub first : roots ≤ 1

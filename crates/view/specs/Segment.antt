@@ -10,11 +10,6 @@ use Rattle.seg.specs.Closest.{closest_by}
 use Rattle.seg.specs.Split.{split_of}
 use Rattle.seg.specs.declared.split.SplitResult.{SplitResult}
 use Rattle.view.specs.Outline.{vertex_value, vertex_past_of}
-use Rattle.view.specs.declared.segment.RootedTest.{RootedTest}
-
--- the code's answer to the test: it, and the roots that it took
-abbrev pub test_tally : RootedTest → Tally Bool
-test_tally t = tally t.on t.roots
 
 -- "0.001 mm says whether a point is on a segment": at an end of it, or at its closest point
 abbrev pub near_end : Grade → PlineVertex → PlineVertex → Vector2 → Bool

@@ -2,6 +2,7 @@
 use Rattle.std.specs.Prelude.{Bool, true, cond, not, ◌&&◌, List, [], ◌∷◌, ℕ, ◌+◌, ◌-◌, ltb, leb, eqb, length, Float}
 use Rattle.real.specs.Refusal.{bad_number, bad_tolerance, bad_outline, bad_index}
 use Rattle.real.specs.Reply.{Reply, refused, given, check}
+use Rattle.real.specs.declared.square_root.Rooted.{Rooted}
 use Rattle.real.specs.Tally.{Way, Tally, tally, plain, counting}
 use Rattle.plane.specs.Grade.{Grade}
 use Rattle.plane.specs.Vec.{near_of, vnear_of}
@@ -16,7 +17,6 @@ use Rattle.view.specs.Segment.{on_outline_by}
 use Rattle.view.specs.declared.view_data.PlineViewData.{PlineViewData}
 use Rattle.view.specs.declared.validation.ViewDataValidation.{ViewDataValidation}
 use Rattle.view.specs.declared.validation.ViewDataValidation.TheVariants as crate
-use Rattle.view.specs.declared.validation.Judgement.{Judgement}
 use Rattle.view.specs.declared.validation.Mark.{Mark}
 use Rattle.view.specs.declared.validation.Mark.TheVariants as case
 
@@ -61,8 +61,8 @@ verdict_of (crate.UpdatedBulgeDoesNotMatch updated expected) = bulges_differ upd
 verdict_of crate.IsValid = valid
 
 -- a verdict, and the roots that it took
-abbrev pub judged_tally : Judgement → Tally Verdict
-judged_tally j = tally (verdict_of j.verdict) j.roots
+abbrev pub judged_tally : Rooted ViewDataValidation → Tally Verdict
+judged_tally j = tally (verdict_of j.value) j.roots
 
 module _ (g : Grade) where
   -- on one segment, "whether the updated bulge matches the updated start's"

@@ -10,11 +10,12 @@ mod lookup;
 mod new_start;
 mod outline;
 mod part;
+mod placed;
 mod segment;
 mod validate;
 mod validation;
 mod view_data;
 
 pub use outline::vertices_in_range;
-pub use validation::{Judgement, Mark, ViewDataValidation};
+pub use validation::{Mark, ViewDataValidation};
 pub use view_data::PlineViewData;

@@ -1,20 +1,14 @@
 // A segment of an outline: whether a point lies on it (the closure `point_is_on_segment` of the crate's `validate_for_source`), and its split.
 ghost use Rattle.std.specs.Prelude.{◌≡◌};
-ghost use Rattle.real.specs.Tally.{counting};
+ghost use Rattle.real.specs.Tally.{counting, tally_of};
 ghost use Rattle.plane.specs.Grade.{double};
 ghost use Rattle.view.specs.Needs.{Index};
-ghost use Rattle.view.specs.Segment.{test_tally, near_end, near_closest_by, on_segment_by, on_outline_by, split_segment_of};
+ghost use Rattle.view.specs.Segment.{near_end, near_closest_by, on_segment_by, on_outline_by, split_segment_of};
 
 use crate::outline::{vertex_at, vertex_past};
 use plane::{PlineVertex, Vector2};
+use real::Rooted;
 use seg::{SplitResult, closest_point, split_at_point};
-
-// Whether a point is on a segment, and how many square roots it took to tell.
-#[derive(Clone, Copy)]
-pub struct RootedTest {
-    pub on: bool,
-    pub roots: u8,
-}
 
 // An end that is nearer to a vertex than this sits on it.
 pub const ON_VERTEX: f64 = 1e-5;
@@ -28,30 +22,32 @@ fn near_an_end(v1: PlineVertex, v2: PlineVertex, p: Vector2) -> bool
     p.fuzzy_eq_eps(v1.pos(), ON_SEGMENT) || p.fuzzy_eq_eps(v2.pos(), ON_SEGMENT)
 }
 
-fn near_closest_point(v1: PlineVertex, v2: PlineVertex, p: Vector2, limit: f64) -> RootedTest
-    ensures { test_tally result ≡ near_closest_by counting double limit v1 v2 p }
+fn near_closest_point(v1: PlineVertex, v2: PlineVertex, p: Vector2, limit: f64) -> Rooted<bool>
+    ensures { tally_of result ≡ near_closest_by counting double limit v1 v2 p }
 {
-    let closest = closest_point(v1, v2, p, ON_VERTEX, limit);
-    let point = closest.point;
-    RootedTest {
-        on: point.fuzzy_eq_eps(p, ON_SEGMENT),
-        roots: closest.roots,
+    let Rooted { value, roots } = closest_point(v1, v2, p, ON_VERTEX, limit);
+    Rooted {
+        value: value.fuzzy_eq_eps(p, ON_SEGMENT),
+        roots,
     }
 }
 
-fn is_on_segment(v1: PlineVertex, v2: PlineVertex, p: Vector2, limit: f64) -> RootedTest
-    ensures { test_tally result ≡ on_segment_by counting double limit v1 v2 p }
+fn is_on_segment(v1: PlineVertex, v2: PlineVertex, p: Vector2, limit: f64) -> Rooted<bool>
+    ensures { tally_of result ≡ on_segment_by counting double limit v1 v2 p }
 {
     if near_an_end(v1, v2, p) {
-        return RootedTest { on: true, roots: 0 };
+        return Rooted {
+            value: true,
+            roots: 0,
+        };
     }
     near_closest_point(v1, v2, p, limit)
 }
 
 // Whether a point lies on segment k of an outline.
-pub fn point_is_on_segment(source: &[f64], k: usize, p: Vector2, limit: f64) -> RootedTest
+pub fn point_is_on_segment(source: &[f64], k: usize, p: Vector2, limit: f64) -> Rooted<bool>
     requires { Index source.now k }
-    ensures { test_tally result ≡ on_outline_by counting double limit source.now k p }
+    ensures { tally_of result ≡ on_outline_by counting double limit source.now k p }
 {
     let v1 = vertex_at(source, k);
     is_on_segment(v1, vertex_past(source, k, 1), p, limit)

@@ -10,11 +10,11 @@ ghost use Rattle.view.specs.Validation.{verdict_of, judged_tally, bulges_match_o
 
 use crate::check::numbers_in_range;
 use crate::outline::{fwd_wrapping_index, vertex_at};
-use crate::segment::{ON_VERTEX, RootedTest, point_is_on_segment};
-use crate::validation::{Judgement, Mark, ViewDataValidation};
+use crate::segment::{ON_VERTEX, point_is_on_segment};
+use crate::validation::{Mark, ViewDataValidation};
 use crate::view_data::PlineViewData;
 use plane::{PlineVertex, fuzzy_eq_eps, limit_in_range, outline_is_whole};
-use real::Refusal;
+use real::{Refusal, Rooted};
 
 // Whether the bulges of a view on one segment match; a longer view has nothing to match.
 fn bulges_match(d: PlineViewData) -> bool
@@ -53,18 +53,23 @@ fn judge_end(d: PlineViewData, on: bool, v: PlineVertex) -> ViewDataValidation
 }
 
 // Verdicts 4 to 7, with the roots of the start's test and of the end's.
-fn judge_ended(d: PlineViewData, ended: RootedTest, v: PlineVertex, roots: u8) -> Judgement
+fn judge_ended(
+    d: PlineViewData,
+    ended: Rooted<bool>,
+    v: PlineVertex,
+    roots: u8,
+) -> Rooted<ViewDataValidation>
     requires { FewRoots ended roots }
-    ensures { judged_tally result ≡ tally (end_verdict double d ended.on v) (roots + ended.roots) }
+    ensures { judged_tally result ≡ tally (end_verdict double d ended.value v) (roots + ended.roots) }
 {
-    Judgement {
-        verdict: judge_end(d, ended.on, v),
+    Rooted {
+        value: judge_end(d, ended.value, v),
         roots: roots + ended.roots,
     }
 }
 
 // Verdicts 3 to 7.
-fn judge(source: &[f64], d: PlineViewData, limit: f64) -> Judgement
+fn judge(source: &[f64], d: PlineViewData, limit: f64) -> Rooted<ViewDataValidation>
     requires { Placed source.now d }
     ensures { judged_tally result ≡ placed_by counting double limit source.now d }
 {
@@ -73,9 +78,9 @@ fn judge(source: &[f64], d: PlineViewData, limit: f64) -> Judgement
     let first = d.updated_start;
     let p = first.pos();
     let started = point_is_on_segment(source, start, p, limit);
-    if !started.on {
-        return Judgement {
-            verdict: ViewDataValidation::UpdatedStartNotOnSegment { start_point: p },
+    if !started.value {
+        return Rooted {
+            value: ViewDataValidation::UpdatedStartNotOnSegment { start_point: p },
             roots: started.roots,
         };
     }
@@ -86,7 +91,11 @@ fn judge(source: &[f64], d: PlineViewData, limit: f64) -> Judgement
 }
 
 // Verdicts 1 and 2, then refusal 4, then the others.
-fn judge_counts(source: &[f64], d: PlineViewData, limit: f64) -> Result<Judgement, Refusal>
+fn judge_counts(
+    source: &[f64],
+    d: PlineViewData,
+    limit: f64,
+) -> Result<Rooted<ViewDataValidation>, Refusal>
     requires { count_of source.now ≤ most_vertices }
     ensures { reply_by judged_tally result ≡ counts_by counting double limit source.now d }
 {
@@ -94,14 +103,14 @@ fn judge_counts(source: &[f64], d: PlineViewData, limit: f64) -> Result<Judgemen
     let offset = d.end_index_offset;
     let start = d.start_index;
     if count < 2 {
-        return Ok(Judgement {
-            verdict: ViewDataValidation::SourceHasNoSegments,
+        return Ok(Rooted {
+            value: ViewDataValidation::SourceHasNoSegments,
             roots: 0,
         });
     }
     if count < offset {
-        return Ok(Judgement {
-            verdict: ViewDataValidation::OffsetOutOfRange {
+        return Ok(Rooted {
+            value: ViewDataValidation::OffsetOutOfRange {
                 offset,
                 source_length: count,
             },
@@ -116,7 +125,11 @@ fn judge_counts(source: &[f64], d: PlineViewData, limit: f64) -> Result<Judgemen
 
 impl PlineViewData {
     // The crate's verdict on the record over an outline, and how many square roots it took.
-    pub fn validate_for_source(self, source: &[f64], limit: f64) -> Result<Judgement, Refusal>
+    pub fn validate_for_source(
+        self,
+        source: &[f64],
+        limit: f64,
+    ) -> Result<Rooted<ViewDataValidation>, Refusal>
         ensures { reply_by judged_tally result ≡ validate_counted double limit source.now self }
     {
         if !outline_is_whole(source) {
@@ -136,6 +149,6 @@ impl PlineViewData {
         ensures { reply_by mark_case result ≡ mark_answer closed source.now self (validate_of double limit source.now self) }
     {
         let judged = self.validate_for_source(source, limit)?;
-        Ok(judged.verdict.mark(self, source, closed))
+        Ok(judged.value.mark(self, source, closed))
     }
 }

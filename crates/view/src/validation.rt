@@ -6,7 +6,7 @@ use crate::gap::is_across_gap;
 use crate::view_data::PlineViewData;
 use plane::{PlineVertex, Vector2};
 
-#[derive(Clone, Copy)]
+#[derive(Clone, Copy, Debug, PartialEq)]
 pub enum ViewDataValidation {
     SourceHasNoSegments,
     OffsetOutOfRange {
@@ -30,14 +30,7 @@ pub enum ViewDataValidation {
     IsValid,
 }
 
-// A verdict, and how many square roots it took.
-#[derive(Clone, Copy)]
-pub struct Judgement {
-    pub verdict: ViewDataValidation,
-    pub roots: u8,
-}
-
-#[derive(Clone, Copy)]
+#[derive(Clone, Copy, Debug, PartialEq, Eq)]
 pub enum Mark {
     Cut,
     Hold,
@@ -50,20 +43,11 @@ impl ViewDataValidation {
     {
         match self {
             ViewDataValidation::SourceHasNoSegments => 1,
-            ViewDataValidation::OffsetOutOfRange {
-                offset: _,
-                source_length: _,
-            } => 2,
-            ViewDataValidation::UpdatedStartNotOnSegment { start_point: _ } => 3,
-            ViewDataValidation::EndPointNotOnSegment { end_point: _ } => 4,
-            ViewDataValidation::EndPointOnFinalOffsetVertex {
-                end_point: _,
-                final_offset_vertex: _,
-            } => 5,
-            ViewDataValidation::UpdatedBulgeDoesNotMatch {
-                updated_bulge: _,
-                expected: _,
-            } => 6,
+            ViewDataValidation::OffsetOutOfRange { .. } => 2,
+            ViewDataValidation::UpdatedStartNotOnSegment { .. } => 3,
+            ViewDataValidation::EndPointNotOnSegment { .. } => 4,
+            ViewDataValidation::EndPointOnFinalOffsetVertex { .. } => 5,
+            ViewDataValidation::UpdatedBulgeDoesNotMatch { .. } => 6,
             ViewDataValidation::IsValid => 7,
         }
     }

@@ -5,10 +5,8 @@ ghost use Rattle.plane.specs.Grade.{double};
 ghost use Rattle.view.specs.Answers.{get_vertex_of, vertex_count_of, list_of, list_buffer, reverse_of, trim_of};
 
 use crate::check::{both_less, check_even, check_place, check_view};
-use crate::list::write_list;
-use crate::lookup::{lookup_in_range, vertex_of};
 use crate::outline::serves_views;
-use crate::part::trimmed;
+use crate::placed::PlacedView;
 use plane::{PlineVertex, Vector2};
 use real::Refusal;
 
@@ -41,10 +39,11 @@ impl PlineViewData {
         if index >= offset + 2 {
             return Err(Refusal::BadIndex);
         }
-        if !lookup_in_range(source, self, index) {
+        let view = PlacedView { source, view: self };
+        if !view.lookup_in_range(index) {
             return Err(Refusal::BadNumber);
         }
-        Ok(vertex_of(source, self, index))
+        Ok(view.vertex(index))
     }
 
     // How many vertices the view has.
@@ -66,7 +65,7 @@ impl PlineViewData {
         if out.len() < 3 * count {
             return Err(Refusal::NoRoom);
         }
-        write_list(source, self, out);
+        PlacedView { source, view: self }.write_list(out);
         Ok(count)
     }
 
@@ -90,6 +89,6 @@ impl PlineViewData {
         if !both_less(i, j, j, offset + 2) {
             return Err(Refusal::BadTrim);
         }
-        Ok(trimmed(source, self, i, j))
+        Ok(PlacedView { source, view: self }.trimmed(i, j))
     }
 }

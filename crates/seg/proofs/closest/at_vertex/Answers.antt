@@ -2,4 +2,4 @@
 use Rattle.seg.proofs.closest.at_vertex.Goals as goal
 
 pub returns : goal.returns
-returns c = simp c.pos.ensures at c.done.ensures
+returns c = simp c.pos-value.ensures

@@ -6,7 +6,7 @@ use Rattle.seg.proofs.closest.closest_point.Goals as goal
 pub returns-then-bulge_is_zero : goal.returns-then-bulge_is_zero
 unfolding closest_by
 returns-then-bulge_is_zero c =
-    yes _ c.bulge_is_zero.ensures c.if-bulge_is_zero.true (simp (c.done.ensures, c.pos.ensures, c.pos-then-bulge_is_zero.ensures, c.line_seg_closest_point.ensures))
+    yes _ c.bulge_is_zero.ensures c.if-bulge_is_zero.true (simp (c.pos.ensures, c.pos-then-bulge_is_zero.ensures, c.line_seg_closest_point.ensures))
 
 pub returns : goal.returns
 unfolding closest_by

@@ -2,7 +2,7 @@
 use mathlib.Core.Path.{◌≡◌, refl, sym, ◌∙◌}
 use mathlib.Core.Bool.{true, ◌&&◌}
 use mathlib.Core.List.{List}
-use Prim.Native.Nat.{ℕ}
+use Prim.Native.Nat.{ℕ, ◌<◌}
 use native.Mathlib.Omega.{arith}
 use lib.Dec.{ltb}
 use lib.Ieee.{Float}
@@ -15,7 +15,7 @@ use Rattle.plane.specs.Grade.{double}
 use Rattle.plane.specs.declared.pline_vertex.PlineVertex.{PlineVertex}
 use Rattle.view.specs.Outline.{viewable}
 use Rattle.view.specs.Record.{vertices, record_vertex_of, record_ok, reads_ok}
-use Rattle.view.specs.Needs.{Placed, PlacedAt}
+use Rattle.view.specs.Needs.{Placed}
 use Rattle.view.specs.Answers.{get_vertex_of}
 use Rattle.view.specs.declared.view_data.PlineViewData.{PlineViewData}
 use Rattle.view.proofs.Checks.{place_placed, place_rest, place_refused}
@@ -31,8 +31,8 @@ past : (s : List Float) (d : PlineViewData) (k : ℕ) → viewable s ≡ true �
 unfolding get_vertex_of
 past s d k v p = good _ refl v (sym (place_rest _ _ _ p))
 
-found : (s : List Float) (d : PlineViewData) (k : ℕ) → viewable s ≡ true → PlacedAt s d k → last s d k ≡ get_vertex_of double s d k
-found s d k v p = simp (lt-ltb _ _ p.position) at (past s d k v p.placed)
+found : (s : List Float) (d : PlineViewData) (k : ℕ) → viewable s ≡ true → Placed s d → k < vertices d → last s d k ≡ get_vertex_of double s d k
+found s d k v p h = simp (lt-ltb _ _ h) at (past s d k v p)
 
 -- what the first guard and the place's check say of the outline and the view
 seen : (c : In_ok-check_place) → viewable c.args.source.now ≡ true
@@ -58,18 +58,15 @@ returns-then-index-offset c =
 pub returns-then-not-lookup_in_range : goal.returns-then-not-lookup_in_range
 returns-then-not-lookup_in_range c =
     let at = (goal.at.returns-then-not-lookup_in_range c).In_ok-check_place in
-    bad _ c.lookup_in_range.ensures c.if-not-lookup_in_range.true refl ∙ found _ _ _ (seen at) (record { placed = placed at; position = c.if-index-offset.false })
+    bad _ c.lookup_in_range.ensures c.if-not-lookup_in_range.true refl ∙ found _ _ _ (seen at) (placed at) c.if-index-offset.false
 
 pub returns : goal.returns
 returns c =
     let at = (goal.at.returns c).In_ok-check_place in
-    good _ c.lookup_in_range.ensures c.if-not-lookup_in_range.false (rw c.vertex_of.ensures) ∙ found _ _ _ (seen at) (record { placed = placed at; position = c.if-index-offset.false })
+    good _ c.lookup_in_range.ensures c.if-not-lookup_in_range.false (rw c.vertex.ensures) ∙ found _ _ _ (seen at) (placed at) c.if-index-offset.false
 
 pub overflow_add-offset : goal.overflow_add-offset
 overflow_add-offset c = omega (arith, placed c)
 
-pub lookup_in_range-requires : goal.lookup_in_range-requires
-lookup_in_range-requires c = record { placed = placed (goal.at.lookup_in_range-requires c).In_ok-check_place; position = c.if-index-offset.false }
-
-pub vertex_of-requires : goal.vertex_of-requires
-vertex_of-requires c = record { placed = placed (goal.at.vertex_of-requires c).In_ok-check_place; position = c.if-index-offset.false }
+pub invariant_of-view : goal.invariant_of-view
+invariant_of-view c = record { placed = placed (goal.at.invariant_of-view c).In_ok-check_place }

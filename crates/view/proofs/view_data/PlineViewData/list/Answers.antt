@@ -51,5 +51,5 @@ overflow_add-count c = omega (arith, (clear c).placed)
 pub overflow_mul-count : goal.overflow_mul-count
 overflow_mul-count c = omega (arith, (clear c).placed)
 
-pub write_list-requires : goal.write_list-requires
-write_list-requires c = record { placed = (clear (goal.at.write_list-requires c).In_ok-check_view).placed; room = c.if-out-count.false }
+pub invariant_of-write_list : goal.invariant_of-write_list
+invariant_of-write_list c = record { placed = (clear (goal.at.invariant_of-write_list c).In_ok-check_view).placed }

@@ -27,7 +27,7 @@ pub trimmed-requires : goal.trimmed-requires
 trimmed-requires c =
     let a = c.args in
     let both = and_both (ltb a.i a.j) _ (passed c.both_less.ensures c.if-not-both_less.false) in
-    record { placed = (clear (goal.at.trimmed-requires c).In_ok-check_even).clear.placed; below = ltb-true _ _ both.0; within = ltb-true _ _ both.1 }
+    record { below = ltb-true _ _ both.0; within = ltb-true _ _ both.1 }
 
 pub returns : goal.returns
 unfolding trim_of
@@ -36,3 +36,6 @@ returns c =
 
 pub overflow_add-offset : goal.overflow_add-offset
 overflow_add-offset c = omega (arith, (clear c).clear.placed)
+
+pub invariant_of-trimmed : goal.invariant_of-trimmed
+invariant_of-trimmed c = record { placed = (clear (goal.at.invariant_of-trimmed c).In_ok-check_even).clear.placed }

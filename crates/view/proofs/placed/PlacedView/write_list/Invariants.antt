@@ -10,7 +10,7 @@ use Rattle.lists.specs.View.{vertex_at_of}
 use Rattle.view.specs.Outline.{count_of, src_of}
 use Rattle.view.specs.Record.{view_of}
 use Rattle.view.specs.declared.view_data.PlineViewData.{PlineViewData}
-use Rattle.view.proofs.list.write_list.Given as goal
+use Rattle.view.proofs.placed.PlacedView.write_list.Given as goal
 
 -- the view's vertices, and the buffer that held `out` after k of them
 abbrev pub vertex : List Float → PlineViewData → ℕ → Vert Float
@@ -20,7 +20,4 @@ abbrev pub after : List Float → PlineViewData → List Float → ℕ → List 
 after s d out k = flat (tab (vertex s d) k) ++ drop (3 * k) out
 
 abbrev pub invariant-loop-k : goal.invariant-loop-k
-invariant-loop-k l = (l.k ≤ l.n) × (length l.out ≡ length l.initial.out) × (l.out ≡ after l.source l.d l.initial.out l.k)
-
-abbrev pub decreases-loop-k : goal.decreases-loop-k
-decreases-loop-k l = l.n - l.k
+invariant-loop-k l = (length l.out ≡ length l.initial.out) × (l.out ≡ after l.self.source.now l.self.view l.initial.out l.k)

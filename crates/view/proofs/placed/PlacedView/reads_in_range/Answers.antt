@@ -1,7 +1,7 @@
 -- Each return is the definition's case that the tests before it show.
 use borrow.Author.Tests.{eq-eqb, ne_eqb, lt-ltb, le-ltb, not-true, not-false}
 use Rattle.view.specs.Record.{reads_ok}
-use Rattle.view.proofs.lookup.reads_in_range.Goals as goal
+use Rattle.view.proofs.placed.PlacedView.reads_in_range.Goals as goal
 
 pub returns-then-k-eq0 : goal.returns-then-k-eq0
 unfolding reads_ok
@@ -14,9 +14,9 @@ returns-then-offset-k c = simp (ne_eqb _ _ c.if-k-eq0.false, lt-ltb _ _ c.if-off
 pub returns-then-not-d : goal.returns-then-not-d
 unfolding reads_ok
 returns-then-not-d c =
-    simp (ne_eqb _ _ c.if-k-eq0.false, le-ltb _ _ c.if-offset-k.false, not-true c.args.d.inverted_direction c.if-not-d.true) c.past_in_range.ensures
+    simp (ne_eqb _ _ c.if-k-eq0.false, le-ltb _ _ c.if-offset-k.false, not-true c.args.self.view.inverted_direction c.if-not-d.true) c.past_in_range.ensures
 
 pub returns : goal.returns
 unfolding reads_ok
 returns c =
-    simp (ne_eqb _ _ c.if-k-eq0.false, le-ltb _ _ c.if-offset-k.false, not-false c.args.d.inverted_direction c.if-not-d.false) c.turned_in_range.ensures
+    simp (ne_eqb _ _ c.if-k-eq0.false, le-ltb _ _ c.if-offset-k.false, not-false c.args.self.view.inverted_direction c.if-not-d.false) c.turned_in_range.ensures

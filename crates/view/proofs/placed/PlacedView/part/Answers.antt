@@ -1,6 +1,6 @@
 -- The record is put together from the calls' answers, field by field.
 use Rattle.lists.specs.View.{part}
-use Rattle.view.proofs.part.part.Goals as goal
+use Rattle.view.proofs.placed.PlacedView.part.Goals as goal
 
 pub returns : goal.returns
 unfolding part

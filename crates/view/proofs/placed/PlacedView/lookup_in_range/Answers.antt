@@ -1,6 +1,6 @@
 -- The two tests are the definition's.
 use Rattle.real.proofs.Pick.{picks}
-use Rattle.view.proofs.lookup.lookup_in_range.Goals as goal
+use Rattle.view.proofs.placed.PlacedView.lookup_in_range.Goals as goal
 
 pub reads_in_range-requires : goal.reads_in_range-requires
 reads_in_range-requires c = c.requires
