@@ -49,14 +49,10 @@ pub fn serves_views(source: &[f64]) -> bool
 pub fn vertices_in_range(source: &[f64]) -> bool
     ensures { result ≡ numbers_ok double source.now }
 {
-    let count = source.len() / 3;
-    let mut k = 0;
-    while k < count {
-        let v = vertex_at(source, k);
-        if !vertex_in_range(v) {
+    for k in 0..source.len() / 3 {
+        if !vertex_in_range(vertex_at(source, k)) {
             return false;
         }
-        k += 1;
     }
     true
 }

@@ -25,10 +25,10 @@ fn near_an_end(v1: PlineVertex, v2: PlineVertex, p: Vector2) -> bool
 fn near_closest_point(v1: PlineVertex, v2: PlineVertex, p: Vector2, limit: f64) -> Rooted<bool>
     ensures { tally_of result ≡ near_closest_by counting double limit v1 v2 p }
 {
-    let Rooted { value, roots } = closest_point(v1, v2, p, ON_VERTEX, limit);
+    let closest = closest_point(v1, v2, p, ON_VERTEX, limit);
     Rooted {
-        value: value.fuzzy_eq_eps(p, ON_SEGMENT),
-        roots,
+        value: closest.value.fuzzy_eq_eps(p, ON_SEGMENT),
+        roots: closest.roots,
     }
 }
 

@@ -6,4 +6,4 @@ use Rattle.view.proofs.segment.near_closest_point.Goals as goal
 
 pub returns : goal.returns
 unfolding near_closest_by
-returns c = let closest = c.closest_point-roots.ensures in simp (value_of closest, roots_of closest, add-zero, c.fuzzy_eq_eps.ensures)
+returns c = let closest = c.closest_point-closest.ensures in simp (value_of closest, roots_of closest, add-zero, c.fuzzy_eq_eps.ensures)
