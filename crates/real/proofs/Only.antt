@@ -1,5 +1,5 @@
 -- No second answer fits the promise of square root: the root is one, and a reply tells its answer.
-use mathlib.Core.Path.{◌≡◌, refl, sym, ap, ◌∙◌}
+use mathlib.Core.Path.{◌≡◌, sym, ap, ◌∙◌}
 use mathlib.Core.Bool.{true, false}
 use lib.Ieee.{Float, Format}
 use Rattle.std.specs.Prelude.{Result}

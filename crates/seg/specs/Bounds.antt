@@ -2,7 +2,7 @@
 use Rattle.std.specs.Prelude.{Bool, cond, not, ◌&&◌, ◌||◌, Float}
 use Rattle.std.specs.Float.Ieee.{lt}
 use Rattle.real.specs.Refusal.{bad_number, bad_tolerance}
-use Rattle.real.specs.Reply.{Reply, refused, given, check}
+use Rattle.real.specs.Reply.{Reply, given, check}
 use Rattle.plane.specs.Grade.{Grade, arith}
 use Rattle.plane.specs.Vec.{vadd_of, vsub_of, scale_of, perp_of, vnear_of}
 use Rattle.plane.specs.Math.{min_max_of}

@@ -2,7 +2,7 @@
 use Rattle.std.specs.Prelude.{Bool, cond, ◌&&◌, Float}
 use Rattle.std.specs.Float.Ieee.{lt}
 use Rattle.real.specs.Root.{abs_of}
-use Rattle.real.specs.Tally.{Way, Tally, tally, plain}
+use Rattle.real.specs.Tally.{Way, plain}
 use Rattle.real.specs.Refusal.{bad_number, bad_tolerance}
 use Rattle.real.specs.Reply.{Reply, given, check}
 use Rattle.plane.specs.Grade.{Grade, arith}

@@ -3,7 +3,7 @@ use Rattle.std.specs.Prelude.{Bool, cond, ◌&&◌, Float}
 use Rattle.std.specs.Float.Ieee.{lt, le, neg}
 use Rattle.real.specs.Root.{abs_of, root_of}
 use Rattle.real.specs.Refusal.{bad_number, bad_tolerance}
-use Rattle.real.specs.Reply.{Reply, refused, given, check}
+use Rattle.real.specs.Reply.{Reply, given, check}
 use Rattle.plane.specs.Grade.{Grade, arith}
 use Rattle.plane.specs.Vec.{vsub_of, length_sq_of, vnear_of}
 use Rattle.plane.specs.Vertex.{vertex_at_of, pos_of, line_of}

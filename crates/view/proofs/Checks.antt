@@ -1,5 +1,5 @@
 -- What it says that an outline and a record pass the checks, and that a check's answer is that of every chain that begins with it.
-use mathlib.Core.Path.{◌≡◌, sym, ap, ◌∙◌}
+use mathlib.Core.Path.{◌≡◌, ◌∙◌}
 use mathlib.Core.Bool.{true, ◌&&◌}
 use mathlib.Core.List.{List}
 use Prim.Native.Nat.{ℕ, ◌%◌, ◌<◌, ◌≤◌}
@@ -8,7 +8,7 @@ use lib.Dec.{ltb, leb, eqb}
 use lib.Ieee.{Float}
 use borrow.Author.Tests.{ltb-true, leb-true, lt-ltb, le-leb}
 use Rattle.real.specs.Refusal.{bad_number, bad_outline, bad_index, bad_offset, uneven_bulges}
-use Rattle.real.specs.Reply.{Reply, refused, given, reply}
+use Rattle.real.specs.Reply.{Reply, refused, given}
 use Rattle.real.proofs.Replies.{never_given, check_passed, check_refused, and_both}
 use Rattle.plane.specs.Grade.{Grade}
 use Rattle.plane.specs.Range.{most_vertices, whole_outline, vertex_ok}

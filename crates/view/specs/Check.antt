@@ -1,7 +1,7 @@
 -- The checks that the view calls share, as chains of refusals in document 01's order, each before the rest of an answer.
 use Rattle.std.specs.Prelude.{◌&&◌, List, ltb, leb, Float}
 use Rattle.real.specs.Refusal.{bad_number, bad_outline, bad_index, bad_offset, uneven_bulges}
-use Rattle.real.specs.Reply.{Reply, refused, given, check}
+use Rattle.real.specs.Reply.{Reply, given, check}
 use Rattle.plane.specs.Grade.{Grade}
 use Rattle.view.specs.Outline.{count_of, viewable, numbers_ok}
 use Rattle.view.specs.Record.{record_ok, even_bits}

@@ -1,5 +1,5 @@
 -- What the inner functions ask of their callers, who have made the checks, and what a vertex number is that they hand back.
-use Rattle.std.specs.Prelude.{◌≡◌, ℕ, ◌<◌, ◌≤◌, Bool, List, length, Float}
+use Rattle.std.specs.Prelude.{◌≡◌, ℕ, ◌<◌, ◌≤◌, Bool, List, Float}
 use Rattle.plane.specs.Range.{most_vertices}
 use Rattle.view.specs.Outline.{count_of}
 use Rattle.view.specs.Record.{vertices}
@@ -10,7 +10,6 @@ use Rattle.real.specs.declared.square_root.Rooted.{Rooted}
 pub record Wraps (index steps n : ℕ) : Type 0 where
   pub below : index < n
   pub round : steps ≤ n
-  pub few : n ≤ most_vertices
 
 -- r is the vertex number k, and a number of n vertices
 pub record Numbers (k n r : ℕ) : Type 0 where
@@ -29,22 +28,12 @@ pub record Positions (d : PlineViewData) (a b : ℕ) : Type 0 where
   pub below : a < b
   pub within : b < vertices d
 
--- a start and an offset in an outline that is not too long, and a position between the first and the last
+-- a start and an offset in an outline, and a position between the first and the last
 pub record Inner (s : List Float) (start offset k : ℕ) : Type 0 where
-  pub few : count_of s ≤ most_vertices
   pub below : start < count_of s
   pub round : offset ≤ count_of s
   pub past : 0 < k
   pub within : k ≤ offset
-
--- a vertex, and so a segment, of an outline that is not too long; and a traverse count of at least 1
-pub record Index (s : List Float) (k : ℕ) : Type 0 where
-  pub few : count_of s ≤ most_vertices
-  pub index : k < count_of s
-
-pub record Ends (s : List Float) (at traverse : ℕ) : Type 0 where
-  pub at_index : Index s at
-  pub some : 0 < traverse
 
 -- the end's test, and the start's roots: at most one each
 pub record FewRoots (ended : Rooted Bool) (roots : ℕ) : Type 0 where

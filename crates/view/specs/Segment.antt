@@ -1,6 +1,6 @@
 -- A segment of an outline: whether a point lies on it, the closure `point_is_on_segment` of the crate's `validate_for_source`, and its split.
 use Rattle.std.specs.Prelude.{Bool, true, cond, ◌||◌, List, ℕ, Float}
-use Rattle.real.specs.Tally.{Way, Tally, tally, plain}
+use Rattle.real.specs.Tally.{Way, plain}
 use Rattle.plane.specs.Grade.{Grade}
 use Rattle.plane.specs.Vec.{vnear_of}
 use Rattle.plane.specs.Vertex.{pos_of}

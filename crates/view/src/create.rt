@@ -1,31 +1,29 @@
 // The crate's `PlineViewData::create`.
-ghost use Rattle.std.specs.Prelude.{◌≡◌, ◌&&◌};
+ghost use Rattle.std.specs.Prelude.{◌≡◌, ◌<◌, ◌&&◌};
 ghost use Rattle.real.specs.Reply.{reply};
 ghost use Rattle.plane.specs.Grade.{double};
 ghost use Rattle.plane.specs.Range.{point_ok, vertex_ok};
-ghost use Rattle.view.specs.Outline.{numbers_ok};
-ghost use Rattle.view.specs.Needs.{Index, Ends};
+ghost use Rattle.view.specs.Outline.{count_of, numbers_ok};
 ghost use Rattle.view.specs.Create.{end_on_top_of, end_on_segment_of, ending_of, ended_at_of, create_of};
 
 use crate::check::both_less;
 use crate::ending::{Ending, forward_data};
-use crate::outline::{serves_views, vertex_at, vertex_past, vertices_in_range};
-use crate::segment::split_segment;
+use crate::outline::{Outline, serves_views, vertices_in_range};
 use crate::view_data::PlineViewData;
 use plane::{PlineVertex, Vector2, point_in_range, tol_and_limit_in_range, vertex_in_range};
 use real::Refusal;
 
 // The end on top of vertex `at`.
-fn end_on_top(source: &[f64], at: usize, b: f64, traverse: usize) -> Ending
-    requires { Ends source.now at traverse }
-    ensures { result ≡ end_on_top_of source.now at b traverse }
+fn end_on_top(outline: Outline, at: usize, b: f64, traverse: usize) -> Ending
+    requires at { at < count_of outline.numbers.now }
+    requires some { 0 < traverse }
+    ensures { result ≡ end_on_top_of outline.entry.numbers.now at b traverse }
 {
-    let count = source.len() / 3;
     let offset = traverse - 1;
     if offset == 0 {
         return Ending { offset, bulge: b };
     }
-    let v = vertex_past(source, at, count - 1);
+    let v = outline.vertex_past(at, outline.vertex_count() - 1);
     Ending {
         offset,
         bulge: v.bulge,
@@ -34,17 +32,17 @@ fn end_on_top(source: &[f64], at: usize, b: f64, traverse: usize) -> Ending
 
 // The end on segment `at`, whose bulge is trimmed to the point.
 fn end_on_segment(
-    source: &[f64],
+    outline: Outline,
     at: usize,
     p: Vector2,
     traverse: usize,
     eps: f64,
     limit: f64,
 ) -> Ending
-    requires { Index source.now at }
-    ensures { result ≡ end_on_segment_of double limit source.now at p traverse eps }
+    requires { at < count_of outline.numbers.now }
+    ensures { result ≡ end_on_segment_of double limit outline.entry.numbers.now at p traverse eps }
 {
-    let split = split_segment(source, at, p, eps, limit);
+    let split = outline.split_segment(at, p, eps, limit);
     let start = split.updated_start;
     Ending {
         offset: traverse,
@@ -54,7 +52,7 @@ fn end_on_segment(
 
 // How the view ends, at a point on segment `at`.
 fn find_end(
-    source: &[f64],
+    outline: Outline,
     p: Vector2,
     at: usize,
     b: f64,
@@ -62,14 +60,15 @@ fn find_end(
     eps: f64,
     limit: f64,
 ) -> Ending
-    requires { Ends source.now at traverse }
-    ensures { result ≡ ending_of double limit source.now p at b traverse eps }
+    requires at { at < count_of outline.numbers.now }
+    requires some { 0 < traverse }
+    ensures { result ≡ ending_of double limit outline.entry.numbers.now p at b traverse eps }
 {
-    let v = vertex_at(source, at);
+    let v = outline.vertex(at);
     if p.fuzzy_eq_eps(v.pos(), eps) {
-        return end_on_top(source, at, b, traverse);
+        return end_on_top(outline, at, b, traverse);
     }
-    end_on_segment(source, at, p, traverse, eps, limit)
+    end_on_segment(outline, at, p, traverse, eps, limit)
 }
 
 // The record, unless its offset is above the vertex count.
@@ -125,7 +124,8 @@ impl PlineViewData {
         if !both_less(start, count, at, count) {
             return Err(Refusal::BadIndex);
         }
-        let e = find_end(source, p, at, first.bulge, traverse, eps, limit);
+        let outline = Outline { numbers: source };
+        let e = find_end(outline, p, at, first.bulge, traverse, eps, limit);
         ended_at(source, start, p, first, e)
     }
 }

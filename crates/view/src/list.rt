@@ -25,7 +25,7 @@ impl<'a> PlacedView<'a> {
     // Writes the view's vertices, in threes, from the start of the buffer.
     pub fn write_list(self, out: &mut [f64])
         requires { needed self.view ≤ length out.old }
-        ensures { out.new ≡ written double self.entry.source.now self.entry.view out.old }
+        ensures { out.new ≡ written double self.entry.outline.numbers.now self.entry.view out.old }
     {
         for k in 0..self.view.end_index_offset + 2 {
             put(out, k, self.vertex(k));

@@ -1,28 +1,26 @@
 // The crate's `PlineViewData::from_new_start`, on closed outlines.
-ghost use Rattle.std.specs.Prelude.{◌≡◌, ◌&&◌};
+ghost use Rattle.std.specs.Prelude.{◌≡◌, ◌<◌, ◌&&◌};
 ghost use Rattle.real.specs.Reply.{reply};
 ghost use Rattle.plane.specs.Grade.{double};
 ghost use Rattle.plane.specs.Range.{point_ok};
 ghost use Rattle.view.specs.Outline.{count_of, numbers_ok};
-ghost use Rattle.view.specs.Needs.{Index, Numbers};
+ghost use Rattle.view.specs.Needs.{Numbers};
 ghost use Rattle.view.specs.Create.{moved_on, round_ending_of, round_from_of, new_start_of};
 
 use crate::ending::{Ending, forward_data};
-use crate::outline::{fwd_wrapping_index, serves_views, vertex_at, vertex_past, vertices_in_range};
-use crate::segment::split_segment;
+use crate::outline::{Outline, serves_views, vertices_in_range};
 use crate::view_data::PlineViewData;
 use plane::{Vector2, point_in_range, tol_and_limit_in_range};
 use real::Refusal;
 use seg::SplitResult;
 
 // The segment that the view starts on: the next one for a point at the end of segment k.
-fn move_on(source: &[f64], p: Vector2, k: usize, eps: f64) -> usize
-    requires { Index source.now k }
-    ensures { Numbers (moved_on double source.now p k eps) (count_of source.now) result }
+fn move_on(outline: Outline, p: Vector2, k: usize, eps: f64) -> usize
+    requires { k < count_of outline.numbers.now }
+    ensures { Numbers (moved_on double outline.entry.numbers.now p k eps) (count_of outline.entry.numbers.now) result }
 {
-    let count = source.len() / 3;
-    let next = fwd_wrapping_index(k, 1, count);
-    let v = vertex_at(source, next);
+    let next = outline.fwd_wrapping_index(k, 1);
+    let v = outline.vertex(next);
     if v.pos().fuzzy_eq_eps(p, eps) {
         next
     } else {
@@ -31,15 +29,15 @@ fn move_on(source: &[f64], p: Vector2, k: usize, eps: f64) -> usize
 }
 
 // How a view round the whole outline ends.
-fn round_ending(source: &[f64], p: Vector2, k: usize, eps: f64, split: SplitResult) -> Ending
-    requires { Index source.now k }
-    ensures { result ≡ round_ending_of double source.now p k eps split }
+fn round_ending(outline: Outline, p: Vector2, k: usize, eps: f64, split: SplitResult) -> Ending
+    requires { k < count_of outline.numbers.now }
+    ensures { result ≡ round_ending_of double outline.entry.numbers.now p k eps split }
 {
-    let count = source.len() / 3;
-    let v = vertex_at(source, k);
+    let count = outline.vertex_count();
+    let v = outline.vertex(k);
     let start = split.updated_start;
     if v.pos().fuzzy_eq_eps(p, eps) {
-        let before = vertex_past(source, k, count - 1);
+        let before = outline.vertex_past(k, count - 1);
         return Ending {
             offset: count - 1,
             bulge: before.bulge,
@@ -52,12 +50,12 @@ fn round_ending(source: &[f64], p: Vector2, k: usize, eps: f64, split: SplitResu
 }
 
 // The whole outline, from a point on segment k.
-fn round_from(source: &[f64], p: Vector2, k: usize, eps: f64, limit: f64) -> PlineViewData
-    requires { Index source.now k }
-    ensures { result ≡ round_from_of double limit source.now p k eps }
+fn round_from(outline: Outline, p: Vector2, k: usize, eps: f64, limit: f64) -> PlineViewData
+    requires { k < count_of outline.numbers.now }
+    ensures { result ≡ round_from_of double limit outline.entry.numbers.now p k eps }
 {
-    let split = split_segment(source, k, p, eps, limit);
-    let e = round_ending(source, p, k, eps, split);
+    let split = outline.split_segment(k, p, eps, limit);
+    let e = round_ending(outline, p, k, eps, split);
     forward_data(k, split.split_vertex, p, e)
 }
 
@@ -94,7 +92,8 @@ impl PlineViewData {
         if start >= source.len() / 3 {
             return Err(Refusal::BadIndex);
         }
-        let k = move_on(source, p, start, eps);
-        Ok(round_from(source, p, k, eps, limit))
+        let outline = Outline { numbers: source };
+        let k = move_on(outline, p, start, eps);
+        Ok(round_from(outline, p, k, eps, limit))
     }
 }

@@ -4,7 +4,6 @@ ghost use Rattle.plane.specs.Grade.{double};
 ghost use Rattle.view.specs.Record.{part_of, trimmed_of};
 ghost use Rattle.view.specs.Needs.{Positions};
 
-use crate::outline::fwd_wrapping_index;
 use crate::placed::PlacedView;
 use crate::view_data::PlineViewData;
 
@@ -12,10 +11,10 @@ impl<'a> PlacedView<'a> {
     // The record of positions a to b of the forward list.
     fn part(self, a: usize, b: usize) -> PlineViewData
         requires { Positions self.view a b }
-        ensures { result ≡ part_of double self.entry.source.now self.entry.view a b }
+        ensures { result ≡ part_of double self.entry.outline.numbers.now self.entry.view a b }
     {
-        let PlacedView { source, view: d } = self;
-        let start = fwd_wrapping_index(d.start_index, a, source.len() / 3);
+        let PlacedView { outline, view: d } = self;
+        let start = outline.fwd_wrapping_index(d.start_index, a);
         let first = self.forward(a);
         let last = self.forward(b - 1);
         let end = self.forward(b).pos();
@@ -32,7 +31,7 @@ impl<'a> PlacedView<'a> {
     // The record of positions i to j of the view.
     pub fn trimmed(self, i: usize, j: usize) -> PlineViewData
         requires { Positions self.view i j }
-        ensures { result ≡ trimmed_of double self.entry.source.now self.entry.view i j }
+        ensures { result ≡ trimmed_of double self.entry.outline.numbers.now self.entry.view i j }
     {
         let offset = self.view.end_index_offset;
         if self.view.inverted_direction {

@@ -1,11 +1,11 @@
 // A segment of an outline: whether a point lies on it (the closure `point_is_on_segment` of the crate's `validate_for_source`), and its split.
-ghost use Rattle.std.specs.Prelude.{◌≡◌};
+ghost use Rattle.std.specs.Prelude.{◌≡◌, ◌<◌};
 ghost use Rattle.real.specs.Tally.{counting, tally_of};
 ghost use Rattle.plane.specs.Grade.{double};
-ghost use Rattle.view.specs.Needs.{Index};
+ghost use Rattle.view.specs.Outline.{count_of};
 ghost use Rattle.view.specs.Segment.{near_end, near_closest_by, on_segment_by, on_outline_by, split_segment_of};
 
-use crate::outline::{vertex_at, vertex_past};
+use crate::outline::Outline;
 use plane::{PlineVertex, Vector2};
 use real::Rooted;
 use seg::{SplitResult, closest_point, split_at_point};
@@ -44,20 +44,20 @@ fn is_on_segment(v1: PlineVertex, v2: PlineVertex, p: Vector2, limit: f64) -> Ro
     near_closest_point(v1, v2, p, limit)
 }
 
-// Whether a point lies on segment k of an outline.
-pub fn point_is_on_segment(source: &[f64], k: usize, p: Vector2, limit: f64) -> Rooted<bool>
-    requires { Index source.now k }
-    ensures { tally_of result ≡ on_outline_by counting double limit source.now k p }
-{
-    let v1 = vertex_at(source, k);
-    is_on_segment(v1, vertex_past(source, k, 1), p, limit)
-}
+impl<'a> Outline<'a> {
+    // Whether a point lies on segment k.
+    pub fn point_is_on_segment(self, k: usize, p: Vector2, limit: f64) -> Rooted<bool>
+        requires { k < count_of self.numbers.now }
+        ensures { tally_of result ≡ on_outline_by counting double limit self.entry.numbers.now k p }
+    {
+        is_on_segment(self.vertex(k), self.vertex_past(k, 1), p, limit)
+    }
 
-// Segment k of an outline, split at a point.
-pub fn split_segment(source: &[f64], k: usize, p: Vector2, eps: f64, limit: f64) -> SplitResult
-    requires { Index source.now k }
-    ensures { result ≡ split_segment_of double limit source.now k p eps }
-{
-    let v1 = vertex_at(source, k);
-    split_at_point(v1, vertex_past(source, k, 1), p, eps, limit)
+    // Segment k, split at a point.
+    pub fn split_segment(self, k: usize, p: Vector2, eps: f64, limit: f64) -> SplitResult
+        requires { k < count_of self.numbers.now }
+        ensures { result ≡ split_segment_of double limit self.entry.numbers.now k p eps }
+    {
+        split_at_point(self.vertex(k), self.vertex_past(k, 1), p, eps, limit)
+    }
 }

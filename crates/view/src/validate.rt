@@ -5,12 +5,13 @@ ghost use Rattle.real.specs.Tally.{tally, counting};
 ghost use Rattle.plane.specs.Grade.{double};
 ghost use Rattle.plane.specs.Range.{most_vertices};
 ghost use Rattle.view.specs.Outline.{count_of};
-ghost use Rattle.view.specs.Needs.{Placed, FewRoots};
+ghost use Rattle.view.specs.Needs.{FewRoots};
 ghost use Rattle.view.specs.Validation.{verdict_of, judged_tally, bulges_match_of, end_verdict, placed_by, counts_by, validate_of, validate_counted, mark_answer, mark_case};
 
 use crate::check::numbers_in_range;
-use crate::outline::{fwd_wrapping_index, vertex_at};
-use crate::segment::{ON_VERTEX, point_is_on_segment};
+use crate::outline::Outline;
+use crate::placed::PlacedView;
+use crate::segment::ON_VERTEX;
 use crate::validation::{Mark, ViewDataValidation};
 use crate::view_data::PlineViewData;
 use plane::{PlineVertex, fuzzy_eq_eps, limit_in_range, outline_is_whole};
@@ -68,26 +69,26 @@ fn judge_ended(
     }
 }
 
-// Verdicts 3 to 7.
-fn judge(source: &[f64], d: PlineViewData, limit: f64) -> Rooted<ViewDataValidation>
-    requires { Placed source.now d }
-    ensures { judged_tally result ≡ placed_by counting double limit source.now d }
-{
-    let count = source.len() / 3;
-    let start = d.start_index;
-    let first = d.updated_start;
-    let p = first.pos();
-    let started = point_is_on_segment(source, start, p, limit);
-    if !started.value {
-        return Rooted {
-            value: ViewDataValidation::UpdatedStartNotOnSegment { start_point: p },
-            roots: started.roots,
-        };
+impl<'a> PlacedView<'a> {
+    // Verdicts 3 to 7.
+    fn judge(self, limit: f64) -> Rooted<ViewDataValidation>
+        ensures { judged_tally result ≡ placed_by counting double limit self.entry.outline.numbers.now self.entry.view }
+    {
+        let PlacedView { outline, view: d } = self;
+        let start = d.start_index;
+        let first = d.updated_start;
+        let p = first.pos();
+        let started = outline.point_is_on_segment(start, p, limit);
+        if !started.value {
+            return Rooted {
+                value: ViewDataValidation::UpdatedStartNotOnSegment { start_point: p },
+                roots: started.roots,
+            };
+        }
+        let last = outline.fwd_wrapping_index(start, d.end_index_offset);
+        let ended = outline.point_is_on_segment(last, d.end_point, limit);
+        judge_ended(d, ended, outline.vertex(last), started.roots)
     }
-    let last = fwd_wrapping_index(start, d.end_index_offset, count);
-    let end = d.end_point;
-    let ended = point_is_on_segment(source, last, end, limit);
-    judge_ended(d, ended, vertex_at(source, last), started.roots)
 }
 
 // Verdicts 1 and 2, then refusal 4, then the others.
@@ -120,7 +121,8 @@ fn judge_counts(
     if start >= count {
         return Err(Refusal::BadIndex);
     }
-    Ok(judge(source, d, limit))
+    let outline = Outline { numbers: source };
+    Ok(PlacedView { outline, view: d }.judge(limit))
 }
 
 impl PlineViewData {

@@ -56,9 +56,9 @@ impl ViewDataValidation {
     pub fn mark(self, d: PlineViewData, source: &[f64], closed: bool) -> Mark
         ensures { mark_case result ≡ mark_of closed source.now d (verdict_of self) }
     {
-        if self.number() != 7 {
+        let ViewDataValidation::IsValid = self else {
             return Mark::Hold;
-        }
+        };
         if is_across_gap(d, source, closed) {
             return Mark::Hold;
         }

@@ -5,7 +5,7 @@ ghost use Rattle.plane.specs.Grade.{double};
 ghost use Rattle.view.specs.Answers.{get_vertex_of, vertex_count_of, list_of, list_buffer, reverse_of, trim_of};
 
 use crate::check::{both_less, check_even, check_place, check_view};
-use crate::outline::serves_views;
+use crate::outline::{Outline, serves_views};
 use crate::placed::PlacedView;
 use plane::{PlineVertex, Vector2};
 use real::Refusal;
@@ -39,7 +39,11 @@ impl PlineViewData {
         if index >= offset + 2 {
             return Err(Refusal::BadIndex);
         }
-        let view = PlacedView { source, view: self };
+        let outline = Outline { numbers: source };
+        let view = PlacedView {
+            outline,
+            view: self,
+        };
         if !view.lookup_in_range(index) {
             return Err(Refusal::BadNumber);
         }
@@ -65,7 +69,12 @@ impl PlineViewData {
         if out.len() < 3 * count {
             return Err(Refusal::NoRoom);
         }
-        PlacedView { source, view: self }.write_list(out);
+        let outline = Outline { numbers: source };
+        PlacedView {
+            outline,
+            view: self,
+        }
+        .write_list(out);
         Ok(count)
     }
 
@@ -89,6 +98,11 @@ impl PlineViewData {
         if !both_less(i, j, j, offset + 2) {
             return Err(Refusal::BadTrim);
         }
-        Ok(PlacedView { source, view: self }.trimmed(i, j))
+        let outline = Outline { numbers: source };
+        Ok(PlacedView {
+            outline,
+            view: self,
+        }
+        .trimmed(i, j))
     }
 }

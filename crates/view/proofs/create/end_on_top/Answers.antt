@@ -9,4 +9,4 @@ returns-then-offset-eq0 c = simp (eq-eqb _ _ c.if-offset-eq0.true)
 
 pub returns : goal.returns
 unfolding end_on_top_of
-returns c = simp (ne_eqb _ _ c.if-offset-eq0.false, c.vertex_past-v.ensures)
+returns c = simp (ne_eqb _ _ c.if-offset-eq0.false, c.vertex_count.ensures, c.vertex_past-v.ensures)

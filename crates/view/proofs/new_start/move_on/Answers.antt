@@ -8,7 +8,7 @@ pub returns-then-fuzzy_eq_eps : goal.returns-then-fuzzy_eq_eps
 unfolding moved_on
 returns-then-fuzzy_eq_eps c =
     record {
-      is = yes _ (simp (c.pos.ensures, c.vertex_at-v.ensures, c.fwd_wrapping_index-next.ensures.is) at c.fuzzy_eq_eps.ensures) c.if-fuzzy_eq_eps.true c.fwd_wrapping_index-next.ensures.is;
+      is = yes _ (simp (c.pos.ensures, c.vertex-v.ensures, c.fwd_wrapping_index-next.ensures.is) at c.fuzzy_eq_eps.ensures) c.if-fuzzy_eq_eps.true c.fwd_wrapping_index-next.ensures.is;
       below = c.fwd_wrapping_index-next.ensures.below;
     }
 
@@ -16,6 +16,6 @@ pub returns-else-fuzzy_eq_eps : goal.returns-else-fuzzy_eq_eps
 unfolding moved_on
 returns-else-fuzzy_eq_eps c =
     record {
-      is = no _ (simp (c.pos.ensures, c.vertex_at-v.ensures, c.fwd_wrapping_index-next.ensures.is) at c.fuzzy_eq_eps.ensures) c.if-fuzzy_eq_eps.false refl;
-      below = c.requires.index;
+      is = no _ (simp (c.pos.ensures, c.vertex-v.ensures, c.fwd_wrapping_index-next.ensures.is) at c.fuzzy_eq_eps.ensures) c.if-fuzzy_eq_eps.false refl;
+      below = c.requires;
     }

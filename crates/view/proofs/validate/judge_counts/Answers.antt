@@ -17,8 +17,8 @@ pub returns-then-start-count : goal.returns-then-start-count
 unfolding counts_by
 returns-then-start-count c = simp (le-ltb _ _ c.if-count-lt2.false, le-ltb _ _ c.if-count-offset.false, le-ltb _ _ c.if-start-count.true)
 
-pub judge-requires : goal.judge-requires
-judge-requires c = record { few = c.requires; two = c.if-count-lt2.false; start = c.if-start-count.false; offset = c.if-count-offset.false }
+pub invariant_of-judge : goal.invariant_of-judge
+invariant_of-judge c = record { placed = record { few = c.requires; two = c.if-count-lt2.false; start = c.if-start-count.false; offset = c.if-count-offset.false } }
 
 pub returns : goal.returns
 unfolding counts_by

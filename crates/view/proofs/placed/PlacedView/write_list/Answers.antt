@@ -21,8 +21,8 @@ loop-k-preserved c =
     let put = c.put in (
       put.auto.out ∙ c.loop-k.invariant.0,
       simp (c.loop-k.invariant.1, c.vertex.ensures) at put.ensures
-          ∙ flat_put (vertex a.self.source.now a.self.view) k a.out.now (omega arith)
-          ∙ ap (after a.self.source.now a.self.view a.out.now) (sym (add-one k)),
+          ∙ flat_put (vertex a.self.outline.numbers.now a.self.view) k a.out.now (omega arith)
+          ∙ ap (after a.self.outline.numbers.now a.self.view a.out.now) (sym (add-one k)),
     )
 
 pub returns : goal.returns
@@ -30,7 +30,7 @@ unfolding written view_list
 returns c =
     let a = c.args in
     let e : c.loop-k.k ≡ vertices a.self.view = omega arith in
-    c.loop-k.invariant.1 ∙ ap (after a.self.source.now a.self.view a.out.now) e
+    c.loop-k.invariant.1 ∙ ap (after a.self.outline.numbers.now a.self.view a.out.now) e
 
 pub shape_of-out : goal.shape_of-out
 shape_of-out c = c.loop-k.invariant.0

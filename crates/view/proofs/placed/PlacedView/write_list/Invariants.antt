@@ -1,7 +1,7 @@
 -- The loop's invariant: the first k vertices stand in the buffer, and then what it held.
 use mathlib.Core.Path.{◌≡◌}
 use mathlib.Core.List.{List, ◌++◌}
-use Prim.Native.Nat.{ℕ, ◌-◌, ◌*◌, ◌≤◌}
+use Prim.Native.Nat.{ℕ, ◌*◌}
 use lib.ListN.{length, drop}
 use lib.Ieee.{Float, neg}
 use Rattle.plane.specs.Grade.{double}
@@ -20,4 +20,4 @@ abbrev pub after : List Float → PlineViewData → List Float → ℕ → List 
 after s d out k = flat (tab (vertex s d) k) ++ drop (3 * k) out
 
 abbrev pub invariant-loop-k : goal.invariant-loop-k
-invariant-loop-k l = (length l.out ≡ length l.initial.out) × (l.out ≡ after l.self.source.now l.self.view l.initial.out l.k)
+invariant-loop-k l = (length l.out ≡ length l.initial.out) × (l.out ≡ after l.self.outline.numbers.now l.self.view l.initial.out l.k)

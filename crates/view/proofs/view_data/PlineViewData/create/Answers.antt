@@ -35,15 +35,14 @@ returns-then-not-both_less c =
     past (goal.at.returns-then-not-both_less c).Else-not-tol_and_limit_in_range
     (simp (lt-ltb 0 c.args.traverse (omega (arith, c.if-traverse-eq0.false))) (bad _ c.both_less.ensures c.if-not-both_less.true refl))
 
+pub invariant_of-outline : goal.invariant_of-outline
+invariant_of-outline c = record { few = (viewable_in _ (passed c.serves_views.ensures c.if-not-serves_views.false)).1 }
+
 pub find_end-e-requires : goal.find_end-e-requires
 find_end-e-requires c =
     let a = c.args in
     record {
-      at_index =
-          record {
-            few = (viewable_in _ (passed c.serves_views.ensures c.if-not-serves_views.false)).1;
-            index = ltb-true _ _ (and_both (ltb a.start (count_of a.source.now)) _ (passed c.both_less.ensures c.if-not-both_less.false)).1;
-          };
+      at = ltb-true _ _ (and_both (ltb a.start (count_of a.source.now)) _ (passed c.both_less.ensures c.if-not-both_less.false)).1;
       some = omega (arith, c.if-traverse-eq0.false);
     }
 

@@ -36,11 +36,14 @@ returns-then-start-source c =
     past (goal.at.returns-then-start-source c).Else-not-tol_and_limit_in_range
     (good {t = c.args.closed} _ refl c.if-not-closed.false (simp (le-ltb _ _ c.if-start-source.true)))
 
+pub invariant_of-outline : goal.invariant_of-outline
+invariant_of-outline c = record { few = few (goal.at.invariant_of-outline c).Else-not-serves_views }
+
 pub move_on-k-requires : goal.move_on-k-requires
-move_on-k-requires c = record { few = few (goal.at.move_on-k-requires c).Else-not-serves_views; index = c.if-start-source.false }
+move_on-k-requires c = c.if-start-source.false
 
 pub round_from-requires : goal.round_from-requires
-round_from-requires c = record { few = few (goal.at.round_from-requires c).Else-not-serves_views; index = c.move_on-k.ensures.below }
+round_from-requires c = c.move_on-k.ensures.below
 
 pub returns : goal.returns
 unfolding new_start_of

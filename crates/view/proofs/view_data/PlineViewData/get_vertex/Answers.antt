@@ -70,3 +70,6 @@ overflow_add-offset c = omega (arith, placed c)
 
 pub invariant_of-view : goal.invariant_of-view
 invariant_of-view c = record { placed = placed (goal.at.invariant_of-view c).In_ok-check_place }
+
+pub invariant_of-outline : goal.invariant_of-outline
+invariant_of-outline c = record { few = (placed (goal.at.invariant_of-outline c).In_ok-check_place).few }

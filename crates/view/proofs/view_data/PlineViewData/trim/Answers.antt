@@ -39,3 +39,6 @@ overflow_add-offset c = omega (arith, (clear c).clear.placed)
 
 pub invariant_of-trimmed : goal.invariant_of-trimmed
 invariant_of-trimmed c = record { placed = (clear (goal.at.invariant_of-trimmed c).In_ok-check_even).clear.placed }
+
+pub invariant_of-outline : goal.invariant_of-outline
+invariant_of-outline c = record { few = (clear (goal.at.invariant_of-outline c).In_ok-check_even).clear.placed.few }

@@ -2,7 +2,7 @@
 use mathlib.Core.Path.{◌∙◌}
 use Rattle.plane.specs.Grade.{double}
 use Rattle.view.proofs.Roots.{few_tested, placed_off, placed_on, denied, granted}
-use Rattle.view.proofs.validate.judge.Goals as goal
+use Rattle.view.proofs.placed.PlacedView.judge.Goals as goal
 
 pub returns-then-not-started : goal.returns-then-not-started
 returns-then-not-started c =
@@ -15,5 +15,5 @@ judge_ended-requires c =
 
 pub returns : goal.returns
 returns c =
-    simp (c.vertex_at.ensures, c.fwd_wrapping_index-last.ensures.is) at c.judge_ended.ensures
+    simp (c.vertex.ensures, c.fwd_wrapping_index-last.ensures.is) at c.judge_ended.ensures
     ∙ placed_on double _ _ _ _ _ (simp c.pos-p.ensures at c.point_is_on_segment-started.ensures) (simp c.fwd_wrapping_index-last.ensures.is at c.point_is_on_segment-ended.ensures) (granted c.if-not-started.false)

@@ -1,5 +1,0 @@
--- The vertex at the wrapped number, by the two promises.
-use Rattle.view.proofs.outline.vertex_past.Goals as goal
-
-pub returns : goal.returns
-returns c = simp c.fwd_wrapping_index.ensures.is at c.vertex_at.ensures
