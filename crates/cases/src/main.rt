@@ -2,23 +2,27 @@
 #![tactic(auto)]
 
 use plane::{LINE_LIMIT, PlineVertex, Vector2, fuzzy_eq_eps};
-use seg::{seg_bounding_box, seg_closest_point, seg_distance_is_greater_than, seg_split_at_point};
+use real::Refusal;
+use seg::{
+    SplitResult, seg_bounding_box, seg_closest_point, seg_distance_is_greater_than,
+    seg_split_at_point,
+};
 use view::PlineViewData;
 
 fn say(rt: &impl Print, text: &str) {
     let _ = rt.print(text);
 }
 
-fn say_refusal(rt: &impl Print, n: u8) {
-    let _ = println!(rt; "refused {n}");
+// The end of a line: the words of an answer, or the refusal.
+fn say_answer(rt: &impl Print, answer: Result<&str, Refusal>) {
+    let _ = match answer {
+        Ok(words) => println!(rt; "{words}"),
+        Err(refusal) => println!(rt; "{refusal}"),
+    };
 }
 
-fn say_whether(rt: &impl Print, yes: bool) {
-    if yes {
-        say(rt, "yes\n");
-    } else {
-        say(rt, "no\n");
-    }
+fn whether(yes: bool) -> &'static str {
+    if yes { "yes" } else { "no" }
 }
 
 // H is (0,0,1) to (1,0).
@@ -45,30 +49,20 @@ fn short_view() -> PlineViewData {
 
 fn position_2(rt: &impl Print) {
     say(rt, "position 2 with offset 0: ");
-    let outline = [0.0f64; 6];
-    let answer = short_view().get_vertex(&outline, 2);
-    match answer {
-        Ok(_) => say(rt, "a vertex\n"),
-        Err(n) => say_refusal(rt, n),
-    }
+    let answer = short_view().get_vertex(&[0.0; 6], 2);
+    say_answer(rt, answer.map(|_| "a vertex"));
 }
 
 fn tolerance_0(rt: &impl Print) {
     say(rt, "tolerance 0: ");
     let p = Vector2 { x: 0.0, y: 0.0 };
     let answer = seg_closest_point(start_of_h(), end_of_h(), p, 0.0, LINE_LIMIT);
-    match answer {
-        Ok(_) => say(rt, "a point\n"),
-        Err(n) => say_refusal(rt, n),
-    }
+    say_answer(rt, answer.map(|_| "a point"));
 }
 
 fn say_count(rt: &impl Print, outline: &[f64]) {
     let answer = short_view().vertex_count(outline);
-    match answer {
-        Ok(_) => say(rt, "pass\n"),
-        Err(n) => say_refusal(rt, n),
-    }
+    say_answer(rt, answer.map(|_| "pass"));
 }
 
 fn most_vertices(rt: &impl Print) {
@@ -88,23 +82,22 @@ fn split_of_h(rt: &impl Print) {
     say(rt, "H split at (0.5,-0.5), both bulges fuzzily tan(pi/8): ");
     let p = Vector2 { x: 0.5, y: -0.5 };
     let answer = seg_split_at_point(start_of_h(), end_of_h(), p, 1e-5, LINE_LIMIT);
-    match answer {
-        Ok(split) => {
-            let a = split.updated_start;
-            let b = split.split_vertex;
-            say_whether(rt, is_tan_of_eighth(a.bulge) && is_tan_of_eighth(b.bulge));
-        }
-        Err(n) => say_refusal(rt, n),
-    }
+    say_answer(
+        rt,
+        answer.map(|split| {
+            let SplitResult {
+                updated_start,
+                split_vertex,
+            } = split;
+            whether(is_tan_of_eighth(updated_start.bulge) && is_tan_of_eighth(split_vertex.bulge))
+        }),
+    );
 }
 
 fn say_distance(rt: &impl Print, d: f64) {
     let p = Vector2 { x: 0.5, y: 0.0 };
     let answer = seg_distance_is_greater_than(start_of_h(), end_of_h(), p, d, 1e-5, LINE_LIMIT);
-    match answer {
-        Ok(yes) => say_whether(rt, yes),
-        Err(n) => say_refusal(rt, n),
-    }
+    say_answer(rt, answer.map(whether));
 }
 
 // An arc whose centre lies 10 km off: its box, and its point that is closest to (1,1).
@@ -113,17 +106,11 @@ fn traced_arc(rt: &impl Print, limit: f64) {
     let end = PlineVertex::new(4.0, 0.0, 0.0);
     say(rt, ", box down to 0: ");
     let answer = seg_bounding_box(start, end, limit);
-    match answer {
-        Ok(b) => say_whether(rt, b.min_y == 0.0),
-        Err(n) => say_refusal(rt, n),
-    }
+    say_answer(rt, answer.map(|b| whether(b.min_y == 0.0)));
     say(rt, "closest to (1,1) is (1,0): ");
     let p = Vector2 { x: 1.0, y: 1.0 };
     let answer = seg_closest_point(start, end, p, 1e-5, limit);
-    match answer {
-        Ok(q) => say_whether(rt, q.x == 1.0 && q.y == 0.0),
-        Err(n) => say_refusal(rt, n),
-    }
+    say_answer(rt, answer.map(|q| whether(q == Vector2 { x: 1.0, y: 0.0 })));
 }
 
 fn main(rt: HostRuntime) {
