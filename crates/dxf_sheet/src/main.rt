@@ -5,7 +5,7 @@
 mod input;
 mod output;
 
-use console::{Input, say};
+use console::say;
 use input::{DRAWING_BYTES, read_drawing};
 use output::write_drawing;
 use std::alloc::AllocError;
@@ -15,17 +15,16 @@ fn answer(rt: &HostRuntime, text: &[u8]) {
         say(rt, "dxf_sheet: the drawing is longer than 4194304 bytes\n");
         return;
     }
-    if !write_drawing(&mut rt.stdout(), &mut rt.stderr(), text) {
+    if write_drawing(&mut rt.stdout(), &mut rt.stderr(), text).is_err() {
         say(rt, "dxf_sheet: the output could not be written\n");
     }
 }
 
 fn main(rt: HostRuntime) -> Result<(), AllocError> {
     let mut buffer = vec![in rt.alloc(); 0u8; DRAWING_BYTES + 1]?;
-    let input = read_drawing(&mut rt.stdin(), &mut buffer);
-    match input {
-        Input::Failed => say(&rt, "dxf_sheet: the input could not be read\n"),
-        Input::Read(n) => answer(&rt, &buffer[..n]),
+    match read_drawing(&mut rt.stdin(), &mut buffer) {
+        Err(_) => say(&rt, "dxf_sheet: the input could not be read\n"),
+        Ok(text) => answer(&rt, text),
     }
     Ok(())
 }

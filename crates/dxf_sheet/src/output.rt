@@ -1,7 +1,7 @@
-// Writing. What is handed on is asked for by a contract: the first n bytes are the sheet meant, or the words.
-ghost use Rattle.std.specs.Prelude.{◌≡◌, ◌≤◌, length, take};
+// Writing. What is handed on is asked for by a contract: it is the sheet meant, or the words.
+ghost use Rattle.std.specs.Prelude.{◌≡◌};
+ghost use Rattle.real.specs.Refusal.{number_of};
 ghost use Rattle.real.specs.Reply.{refused, given};
-ghost use Rattle.text.specs.Wrote.{Begins};
 ghost use Rattle.dxf.specs.Outline.{outline_of};
 ghost use Rattle.job.specs.Lines.{refused_line};
 ghost use Rattle.dxf_sheet.specs.Drawing.{drawing_sheet};
@@ -9,58 +9,59 @@ ghost use Rattle.dxf_sheet.specs.Drawing.{drawing_sheet};
 use dxf::{OUTLINE_NUMBERS, dxf_outline};
 use job::{PART_BYTES, refused_sheet};
 use outline_sheet::{OUTLINE_SHEET_BYTES, outline_sheet};
+use real::Refusal;
+use std::io;
 use std::io::Write;
 
-// Hands on the sheet of a drawing; false where the output takes no more.
-fn hand_sheet<W: Write>(out: &mut W, drawing: &[u8], bytes: &[u8], n: usize) -> bool
-    requires { (n ≤ length bytes.now) × (drawing_sheet drawing.now ≡ given (take n bytes.now)) }
+// Hands on the sheet of a drawing.
+fn hand_sheet<W: Write>(out: &mut W, drawing: &[u8], sheet: &[u8]) -> io::Result<()>
+    requires { drawing_sheet drawing.now ≡ given sheet.now }
 {
-    out.write_all(&bytes[..n]).is_ok()
+    out.write_all(sheet)
 }
 
 // Hands on the words of a refusal.
-fn hand_words<E: Write>(said: &mut E, number: u8, text: &[u8], n: usize) -> bool
-    requires { Begins (refused_line number) text.now n }
+fn hand_words<E: Write>(said: &mut E, refusal: Refusal, words: &[u8]) -> io::Result<()>
+    requires { words.now ≡ refused_line (number_of refusal) }
 {
-    said.write_all(&text[..n]).is_ok()
+    said.write_all(words)
 }
 
 // Says that a drawing is refused, and with which number.
-fn refuse<E: Write>(said: &mut E, drawing: &[u8], number: u8) -> bool
-    requires { drawing_sheet drawing.now ≡ refused number }
+fn refuse<E: Write>(said: &mut E, drawing: &[u8], refusal: Refusal) -> io::Result<()>
+    requires { drawing_sheet drawing.now ≡ refused (number_of refusal) }
 {
     let mut text = [0u8; PART_BYTES];
-    let n = refused_sheet(number, &mut text);
-    hand_words(said, number, &text, n)
+    let n = refused_sheet(u8::from(refusal), &mut text);
+    hand_words(said, refusal, &text[..n])
 }
 
 // Writes the sheet of a drawing's outline, which no sheet refuses.
-fn write_outline<W: Write, E: Write>(
+fn write_outline<W: Write>(
     out: &mut W,
-    said: &mut E,
     drawing: &[u8],
     outline: &[f64],
     closed: bool,
-) -> bool
+) -> io::Result<()>
     requires { outline_of drawing.now ≡ given (record { numbers = outline.now; closed = closed }) }
 {
-    let mut bytes = [0u8; OUTLINE_SHEET_BYTES];
-    let answer = outline_sheet(outline, closed, &mut bytes);
-    match answer {
-        Err(number) => refuse(said, drawing, number),
-        Ok(n) => hand_sheet(out, drawing, &bytes, n),
-    }
+    let mut sheet = [0u8; OUTLINE_SHEET_BYTES];
+    let n = outline_sheet(outline, closed, &mut sheet).unwrap();
+    hand_sheet(out, drawing, &sheet[..n])
 }
 
-// Writes the sheet of a drawing, or says its refusal; false where the output takes no more.
-pub(crate) fn write_drawing<W: Write, E: Write>(out: &mut W, said: &mut E, drawing: &[u8]) -> bool {
+// Writes the sheet of a drawing, or says its refusal.
+pub(crate) fn write_drawing<W: Write, E: Write>(
+    out: &mut W,
+    said: &mut E,
+    drawing: &[u8],
+) -> io::Result<()> {
     let mut numbers = [0.0f64; OUTLINE_NUMBERS];
-    let answer = dxf_outline(drawing, &mut numbers);
-    match answer {
-        Err(number) => refuse(said, drawing, number),
+    match dxf_outline(drawing, &mut numbers) {
+        Err(refusal) => refuse(said, drawing, refusal),
         Ok(outline) => {
             let n = 3 * outline.vertices;
-            write_outline(out, said, drawing, &numbers[..n], outline.closed)
+            write_outline(out, drawing, &numbers[..n], outline.closed)
         }
     }
 }
