@@ -16,11 +16,6 @@ unfoldable pub hex : ℕ → ℕ → List ℕ
 hex zero n = []
 hex (suc k) n = glyph (n / 16 ^ k % 16) ∷ hex k n
 
--- the number whose bytes these are, the least first
-unfoldable pub word : List ℕ → ℕ
-word [] = 0
-word (a ∷ l) = a + 256 * word l
-
 -- the last k decimal digits of n
 unfoldable pub digits : ℕ → ℕ → List ℕ
 digits zero n = []
