@@ -1,15 +1,13 @@
 -- Digits, as the code has them: how many, the last of them, and two halves of eight.
 use mathlib.Core.Path.{◌≡◌, refl, sym, ap, ◌∙◌}
 use mathlib.Core.List.{List, [], ◌∷◌, ◌++◌, append_assoc}
-use Prim.Native.Nat.{ℕ, zero, suc, ◌+◌, ◌/◌, ◌%◌, ◌^◌, ◌≤◌, ◌<◌}
+use Prim.Native.Nat.{ℕ, zero, suc, ◌+◌, ◌*◌, ◌/◌, ◌%◌, ◌^◌, ◌≤◌, ◌<◌}
 use native.Mathlib.Nat.{div-div-eq-div-mul, pow-suc}
 use native.Mathlib.Decide.{dec_lt}
 use native.Mathlib.Omega.{arith}
 use lib.ListN.{length, length-append}
 use lib.Ieee.{Float}
 use borrow.Author.Tests.{lt-ltb, le-ltb}
-use Rattle.std.specs.Fmt.{decimal as std_decimal}
-use Rattle.std.proofs.lemmas.Fmt.{AppendsLastDigit, decimal_from_appends, length-decimal-le, decimal_step}
 use Rattle.text.specs.Digits.{digit, hex, digits, decimals, decimal, float}
 
 -- ---- hexadecimal digits
@@ -24,24 +22,25 @@ float_length x = refl
 
 -- ---- the last decimal digits
 
--- two at a time, before what is written
-pub two_more : (k n : ℕ) (w : List ℕ) → digits (suc (suc k)) n ++ w ≡ digits k (n / 100) ++ digit (n % 100 / 10) ∷ digit (n % 100 % 10) ∷ w
+-- two more of them, one more, or none, before the text w
+pub two_more : (k n : ℕ) (w : List ℕ) {m : ℕ} → m ≡ suc (suc k) → digits m n ++ w ≡ digits k (n / 100) ++ digit (n % 100 / 10) ∷ digit (n % 100 % 10) ∷ w
 unfolding digits
-two_more k n w =
+two_more k n w e =
     let p : n / 10 / 10 ≡ n / 100 = omega arith in
     let q : n / 10 % 10 ≡ n % 100 / 10 = omega arith in
     let r : n % 10 ≡ n % 100 % 10 = omega arith in
-    append_assoc (digits k (n / 10 / 10) ++ digit (n / 10 % 10) ∷ []) (digit (n % 10) ∷ []) w
+    ap (λ (m : ℕ). digits m n ++ w) e
+    ∙ append_assoc (digits k (n / 10 / 10) ++ digit (n / 10 % 10) ∷ []) (digit (n % 10) ∷ []) w
     ∙ append_assoc (digits k (n / 10 / 10)) (digit (n / 10 % 10) ∷ []) (digit (n % 10) ∷ w)
     ∙ rw (p, q, r) refl
 
-pub one_more : (n : ℕ) (w : List ℕ) → digits 1 n ++ w ≡ digit (n % 10) ∷ w
+pub one_more : (n : ℕ) (w : List ℕ) {m : ℕ} → m ≡ 1 → digits m n ++ w ≡ digit (n % 10) ∷ w
 unfolding digits
-one_more n w = refl
+one_more n w e = ap (λ (m : ℕ). digits m n ++ w) e
 
-pub none_more : (n : ℕ) (w : List ℕ) → digits 0 n ++ w ≡ w
+pub none_more : (n : ℕ) (w : List ℕ) {m : ℕ} → m ≡ 0 → digits m n ++ w ≡ w
 unfolding digits
-none_more n w = refl
+none_more n w e = ap (λ (m : ℕ). digits m n ++ w) e
 
 pub digits_length : (k n : ℕ) → length (digits k n) ≡ k
 unfolding digits
@@ -74,22 +73,23 @@ pub decimal_digits : (n : ℕ) → digits (length (decimal n)) n ≡ decimal n
 unfolding decimal
 decimal_digits n = all_digits 20 n
 
--- std's digits, and so a number of two digits has one more than its front
-appends : AppendsLastDigit decimals
-appends = record { one = last; more = more }
+-- how many they are
+decimals_count : (k m n : ℕ) → k < m → 10 ^ k ≤ n → n < 10 ^ suc k → length (decimals m n) ≡ suc k
+decimals_count zero (suc m) n b l h = ap length (last m n h)
+decimals_count (suc k) (suc m) n b l h =
+    let e = pow-suc 10 k in
+    let f = pow-suc 10 (suc k) in
+    let z = ten_pos k in
+    more_length m n (omega arith) ∙ ap suc (decimals_count k m (n / 10) (omega arith) (omega arith) (omega arith))
+  where
+    ten_pos : (k : ℕ) → 0 < 10 ^ k
+    ten_pos zero = omega arith
+    ten_pos (suc k) = let e = pow-suc 10 k in let h = ten_pos k in omega arith
+decimals_count k zero n b l h = absurd (let z : ⊥ = omega arith in z)
 
-as_std : (n : ℕ) → n < 2 ^ 64 → decimal n ≡ std_decimal n
+pub decimal_count : (k n : ℕ) → k < 20 → 10 ^ k ≤ n → n < 10 * 10 ^ k → k + 1 ≡ length (decimal n)
 unfolding decimal
-as_std n h = decimal_from_appends decimals appends 20 n h (length-decimal-le 20 n (omega arith) (omega arith) h)
-
-pub front_length : (n : ℕ) → 10 ≤ n → n < 2 ^ 64 → length (decimal n) ≡ length (decimal (n / 10)) + 1
-front_length n l h =
-    ap length (as_std n h ∙ decimal_step n l h) ∙ length-append (std_decimal (n / 10)) (digit (n % 10) ∷ [])
-    ∙ ap (λ (t : List ℕ). length t + 1) (sym (as_std (n / 10) (omega arith)))
-
-pub digit_length : (n : ℕ) → n < 10 → length (decimal n) ≡ 1
-unfolding decimal
-digit_length n h = ap length (last 19 n h)
+decimal_count k n b l h = let p = pow-suc 10 k in let e = decimals_count k 20 n b l (omega arith) in omega arith
 
 decimals_length : (k n : ℕ) → length (decimals k n) ≤ k
 unfolding decimals

@@ -9,14 +9,10 @@ use crate::piece::has_room;
 fn count_digits(n: u64) -> usize
     ensures { result ≡ length (spec.decimal n) }
 {
-    let tenth = n / 10;
-    let mut count = 1;
-    let mut power = 1;
-    while power <= tenth {
-        power *= 10;
-        count += 1;
+    match n.checked_ilog10() {
+        Some(k) => k as usize + 1,
+        None => 1,
     }
-    count
 }
 
 // The last digits of n, two at a time from the end.
@@ -24,20 +20,19 @@ fn put_digits(out: &mut [u8], at: usize, count: usize, n: u64) -> usize
     requires { at + count ≤ length out.old }
     ensures { Wrote out.old at (spec.digits count n) out.new result }
 {
-    let end = at + count;
-    let mut i = end;
+    let mut left = count;
     let mut rest = n;
-    while i >= at + 2 {
-        i -= 2;
+    while left >= 2 {
+        left -= 2;
         let pair = (rest % 100) as u8;
-        out[i] = b'0' + pair / 10;
-        out[i + 1] = b'0' + pair % 10;
+        out[at + left] = b'0' + pair / 10;
+        out[at + left + 1] = b'0' + pair % 10;
         rest /= 100;
     }
-    if i > at {
+    if left == 1 {
         out[at] = b'0' + (rest % 10) as u8;
     }
-    end
+    at + count
 }
 
 pub fn put_decimal(out: &mut [u8], at: usize, n: u64) -> usize
