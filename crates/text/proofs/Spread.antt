@@ -1,13 +1,16 @@
 -- Eight hexadecimal digits at once, each in a part of one number: a mask takes the same digits out of every part.
-use mathlib.Core.Path.{◌≡◌, refl, sym, ap, ap₂, ◌∙◌}
+use mathlib.Core.Path.{◌≡◌, refl, ap, ap₂, ◌∙◌}
 use mathlib.Core.List.{[], ◌∷◌}
-use Prim.Native.Nat.{ℕ, suc, ◌+◌, ◌-◌, ◌*◌, ◌/◌, ◌%◌, ◌^◌, ◌<◌, ◌≤◌}
-use native.Mathlib.Nat.{mod-eq_of_lt, le_trans, le_of_eq, div-div-eq-div-mul}
+use Prim.Native.Nat.{ℕ, zero, suc, ◌+◌, ◌-◌, ◌*◌, ◌/◌, ◌%◌, ◌^◌, ◌<◌, ◌≤◌}
+use native.Mathlib.Nat.{mod-eq_of_lt, le_trans, le_of_eq}
 use native.Mathlib.Decide.{dec_lt}
 use native.Mathlib.Omega.{arith}
 use lib.Bits.{bit_and, and_block, and_mask, and_le_r}
 use borrow.Author.Tests.{lt-ltb, le-ltb}
-use Rattle.text.specs.Digits.{glyph, hex, word}
+use Rattle.std.specs.Int.{w64, from_le_bytes, to_le_bytes}
+use Rattle.std.proofs.lemmas.Nat.{le_bytes_8}
+use lib.ListN.{get_or}
+use Rattle.text.specs.Digits.{glyph, hex}
 
 -- of the lowest part, of k bits, a mask keeps the last m; x is the parts b above r
 lowest : (k m x b r e M : ℕ) → x ≡ b * 2 ^ k + r → r < 2 ^ k → 2 ^ m - 1 < 2 ^ k → r % 2 ^ m ≡ e → bit_and x (M * 2 ^ k + (2 ^ m - 1)) ≡ bit_and b M * 2 ^ k + e
@@ -96,8 +99,7 @@ summed : (a b c d e f g h a' b' c' d' e' f' g' h' : ℕ)
     ≡ in8 (code a a') (code b b') (code c c') (code d d') (code e e') (code f f') (code g g') (code h h')
 summed a b c d e f g h a' b' c' d' e' f' g' h' = omega arith
 
-worded : (a b c d e f g h : ℕ) → in8 a b c d e f g h ≡ word (a ∷ b ∷ c ∷ d ∷ e ∷ f ∷ g ∷ h ∷ [])
-unfolding word
+worded : (a b c d e f g h : ℕ) → in8 a b c d e f g h ≡ from_le_bytes w64 (a ∷ b ∷ c ∷ d ∷ e ∷ f ∷ g ∷ h ∷ [])
 worded a b c d e f g h = omega arith
 
 -- from the digits to their codes
@@ -105,7 +107,7 @@ abbrev coded : ℕ → ℕ
 coded n = n + 0x3030_3030_3030_3030 + bit_and ((n + 0x606_0606_0606_0606) / 0x10) 0x101_0101_0101_0101 * 39
 
 codes_are : (a b c d e f g h : ℕ) → a < 0x10 → b < 0x10 → c < 0x10 → d < 0x10 → e < 0x10 → f < 0x10 → g < 0x10 → h < 0x10
-    → coded (in8 a b c d e f g h) ≡ word (glyph a ∷ glyph b ∷ glyph c ∷ glyph d ∷ glyph e ∷ glyph f ∷ glyph g ∷ glyph h ∷ [])
+    → coded (in8 a b c d e f g h) ≡ from_le_bytes w64 (glyph a ∷ glyph b ∷ glyph c ∷ glyph d ∷ glyph e ∷ glyph f ∷ glyph g ∷ glyph h ∷ [])
 codes_are a b c d e f g h ha hb hc hd he hf hg hh =
     ap (λ (z : ℕ). in8 a b c d e f g h + 0x3030_3030_3030_3030 + z * 39)
     (ap (λ (z : ℕ). bit_and (z / 0x10) 0x101_0101_0101_0101) (raised a b c d e f g h)
@@ -122,36 +124,21 @@ in8_le a b c d e f g h ha hb hc hd he hf hg hh = omega arith
 
 -- ---- the bytes of a number in parts of 8
 
-lowest_byte : (A a : ℕ) → a < 0x100 → (A * 0x100 + a) % 0x100 ≡ a
-lowest_byte A a h = omega arith
-
-rest : (A a : ℕ) → a < 0x100 → (A * 0x100 + a) / 0x100 ≡ A
-rest A a h = omega arith
-
-bytes_of : (w a b c d e f g h : ℕ) → a < 0x100 → b < 0x100 → c < 0x100 → d < 0x100 → e < 0x100 → f < 0x100 → g < 0x100 → h < 0x100 → w ≡ in8 a b c d e f g h
-    → (w % 0x100) ∷ (w / 0x100 % 0x100) ∷ (w / 0x1_0000 % 0x100) ∷ (w / 0x100_0000 % 0x100) ∷ (w / 0x1_0000_0000 % 0x100) ∷ (w / 0x100_0000_0000 % 0x100) ∷ (w / 0x1_0000_0000_0000 % 0x100) ∷ (w / 0x100_0000_0000_0000) ∷ [] ≡ a ∷ b ∷ c ∷ d ∷ e ∷ f ∷ g ∷ h ∷ []
-bytes_of w a b c d e f g h ha hb hc hd he hf hg hh p =
-    let q₁ : w / 0x100 ≡ ((((((h * 0x100 + g) * 0x100 + f) * 0x100 + e) * 0x100 + d) * 0x100 + c) * 0x100 + b) = ap (λ (z : ℕ). z / 0x100) p ∙ rest ((((((h * 0x100 + g) * 0x100 + f) * 0x100 + e) * 0x100 + d) * 0x100 + c) * 0x100 + b) a ha in
-    let q₂ : w / 0x1_0000 ≡ (((((h * 0x100 + g) * 0x100 + f) * 0x100 + e) * 0x100 + d) * 0x100 + c) = sym (div-div-eq-div-mul w 0x100 0x100) ∙ ap (λ (z : ℕ). z / 0x100) q₁ ∙ rest (((((h * 0x100 + g) * 0x100 + f) * 0x100 + e) * 0x100 + d) * 0x100 + c) b hb in
-    let q₃ : w / 0x100_0000 ≡ ((((h * 0x100 + g) * 0x100 + f) * 0x100 + e) * 0x100 + d) = sym (div-div-eq-div-mul w 0x1_0000 0x100) ∙ ap (λ (z : ℕ). z / 0x100) q₂ ∙ rest ((((h * 0x100 + g) * 0x100 + f) * 0x100 + e) * 0x100 + d) c hc in
-    let q₄ : w / 0x1_0000_0000 ≡ (((h * 0x100 + g) * 0x100 + f) * 0x100 + e) = sym (div-div-eq-div-mul w 0x100_0000 0x100) ∙ ap (λ (z : ℕ). z / 0x100) q₃ ∙ rest (((h * 0x100 + g) * 0x100 + f) * 0x100 + e) d hd in
-    let q₅ : w / 0x100_0000_0000 ≡ ((h * 0x100 + g) * 0x100 + f) = sym (div-div-eq-div-mul w 0x1_0000_0000 0x100) ∙ ap (λ (z : ℕ). z / 0x100) q₄ ∙ rest ((h * 0x100 + g) * 0x100 + f) e he in
-    let q₆ : w / 0x1_0000_0000_0000 ≡ (h * 0x100 + g) = sym (div-div-eq-div-mul w 0x100_0000_0000 0x100) ∙ ap (λ (z : ℕ). z / 0x100) q₅ ∙ rest (h * 0x100 + g) f hf in
-    let q₇ : w / 0x100_0000_0000_0000 ≡ h = sym (div-div-eq-div-mul w 0x1_0000_0000_0000 0x100) ∙ ap (λ (z : ℕ). z / 0x100) q₆ ∙ rest h g hg in
-    rw ((ap (λ (z : ℕ). z % 0x100) p ∙ lowest_byte ((((((h * 0x100 + g) * 0x100 + f) * 0x100 + e) * 0x100 + d) * 0x100 + c) * 0x100 + b) a ha), (ap (λ (z : ℕ). z % 0x100) q₁ ∙ lowest_byte (((((h * 0x100 + g) * 0x100 + f) * 0x100 + e) * 0x100 + d) * 0x100 + c) b hb), (ap (λ (z : ℕ). z % 0x100) q₂ ∙ lowest_byte ((((h * 0x100 + g) * 0x100 + f) * 0x100 + e) * 0x100 + d) c hc), (ap (λ (z : ℕ). z % 0x100) q₃ ∙ lowest_byte (((h * 0x100 + g) * 0x100 + f) * 0x100 + e) d hd), (ap (λ (z : ℕ). z % 0x100) q₄ ∙ lowest_byte ((h * 0x100 + g) * 0x100 + f) e he), (ap (λ (z : ℕ). z % 0x100) q₅ ∙ lowest_byte (h * 0x100 + g) f hf), (ap (λ (z : ℕ). z % 0x100) q₆ ∙ lowest_byte h g hg), (q₇)) refl
-
 glyph_lt : (n : ℕ) → glyph (n % 16) < 0x100
 glyph_lt n = elim (dec_lt (n % 16) 10) [
   | yes p ↦ rw (lt-ltb (n % 16) 10 p) (omega arith)
   | no p ↦ rw (le-ltb (n % 16) 10 (omega arith)) (omega arith)
 ]
 
-pub hex_bytes : (x w : ℕ) → w ≡ word (hex 8 x) → (w % 0x100) ∷ (w / 0x100 % 0x100) ∷ (w / 0x1_0000 % 0x100) ∷ (w / 0x100_0000 % 0x100) ∷ (w / 0x1_0000_0000 % 0x100) ∷ (w / 0x100_0000_0000 % 0x100) ∷ (w / 0x1_0000_0000_0000 % 0x100) ∷ (w / 0x100_0000_0000_0000) ∷ [] ≡ hex 8 x
+hex_lt : (k x i : ℕ) → get_or (hex k x) i 0 < 0x100
 unfolding hex
-hex_bytes x w p =
-    bytes_of w (glyph (x / 268435456 % 16)) (glyph (x / 16777216 % 16)) (glyph (x / 1048576 % 16)) (glyph (x / 65536 % 16)) (glyph (x / 4096 % 16)) (glyph (x / 256 % 16)) (glyph (x / 16 % 16)) (glyph (x / 1 % 16))
-    (glyph_lt (x / 268435456)) (glyph_lt (x / 16777216)) (glyph_lt (x / 1048576)) (glyph_lt (x / 65536)) (glyph_lt (x / 4096)) (glyph_lt (x / 256)) (glyph_lt (x / 16)) (glyph_lt (x / 1))
-    (p ∙ sym (worded (glyph (x / 268435456 % 16)) (glyph (x / 16777216 % 16)) (glyph (x / 1048576 % 16)) (glyph (x / 65536 % 16)) (glyph (x / 4096 % 16)) (glyph (x / 256 % 16)) (glyph (x / 16 % 16)) (glyph (x / 1 % 16))))
+hex_lt zero x i = omega arith
+hex_lt (suc k) x zero = glyph_lt (x / 16 ^ k)
+hex_lt (suc k) x (suc i) = hex_lt k x i
+
+pub hex_bytes : (x w : ℕ) → w ≡ from_le_bytes w64 (hex 8 x) → to_le_bytes w64 w ≡ hex 8 x
+unfolding hex
+hex_bytes x w p = le_bytes_8 (hex 8 x) w refl (hex_lt 8 x) p
 
 -- ---- as the code has them
 
@@ -216,9 +203,12 @@ module _ (x : ℕ) (l : x < 0x1_0000_0000) where
   pub carries_le : carries x ≤ 0x101_0101_0101_0101
   carries_le = and_le_r ((digits x + 0x606_0606_0606_0606) / 0x10) 0x101_0101_0101_0101
 
-  pub glyphs_are : coded (digits x) ≡ word (hex 8 x)
+  hexed : glyph (e₀ / 0x10) ∷ glyph (e₀ % 0x10) ∷ glyph (e₁ / 0x10) ∷ glyph (e₁ % 0x10) ∷ glyph (e₂ / 0x10) ∷ glyph (e₂ % 0x10) ∷ glyph (e₃ / 0x10) ∷ glyph (e₃ % 0x10) ∷ [] ≡ hex 8 x
   unfolding hex
+  hexed = rw ((let t : e₀ / 0x10 ≡ x / 268435456 % 16 = omega arith in t), (let t : e₀ % 0x10 ≡ x / 16777216 % 16 = omega arith in t), (let t : e₁ / 0x10 ≡ x / 1048576 % 16 = omega arith in t), (let t : e₁ % 0x10 ≡ x / 65536 % 16 = omega arith in t), (let t : e₂ / 0x10 ≡ x / 4096 % 16 = omega arith in t), (let t : e₂ % 0x10 ≡ x / 256 % 16 = omega arith in t), (let t : e₃ / 0x10 ≡ x / 16 % 16 = omega arith in t), (let t : e₃ % 0x10 ≡ x / 1 % 16 = omega arith in t)) refl
+
+  pub glyphs_are : coded (digits x) ≡ from_le_bytes w64 (hex 8 x)
   glyphs_are =
       ap coded digits_are
       ∙ codes_are (e₀ / 0x10) (e₀ % 0x10) (e₁ / 0x10) (e₁ % 0x10) (e₂ / 0x10) (e₂ % 0x10) (e₃ / 0x10) (e₃ % 0x10) (omega arith) (omega arith) (omega arith) (omega arith) (omega arith) (omega arith) (omega arith) (omega arith)
-      ∙ ap word (rw ((let t : e₀ / 0x10 ≡ x / 268435456 % 16 = omega arith in t), (let t : e₀ % 0x10 ≡ x / 16777216 % 16 = omega arith in t), (let t : e₁ / 0x10 ≡ x / 1048576 % 16 = omega arith in t), (let t : e₁ % 0x10 ≡ x / 65536 % 16 = omega arith in t), (let t : e₂ / 0x10 ≡ x / 4096 % 16 = omega arith in t), (let t : e₂ % 0x10 ≡ x / 256 % 16 = omega arith in t), (let t : e₃ / 0x10 ≡ x / 16 % 16 = omega arith in t), (let t : e₃ % 0x10 ≡ x / 1 % 16 = omega arith in t)) refl)
+      ∙ ap (from_le_bytes w64) hexed

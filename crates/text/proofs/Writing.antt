@@ -10,6 +10,7 @@ use native.Mathlib.Nat.{add-zero}
 use native.Mathlib.Decide.{dec_lt}
 use native.Mathlib.Omega.{arith}
 use lib.ListN.{length, set, take, drop, length-append}
+use Rattle.std.proofs.lemmas.List.{set_comm}
 use lib.Seq.{sets, sets-eq, length-sets, take_at}
 use Rattle.text.specs.Wrote.{Wrote, Piece, Put, Begins, Filled}
 
@@ -114,11 +115,6 @@ put_named {l} {l'} {at} {e} p w = subst (λ (s : List ℕ). Put l at s l' e) p w
 pub one : (l : List ℕ) (i a : ℕ) → Wrote l i (a ∷ []) (set l i a) (i + 1)
 one l i a = record { text = refl; end = refl }
 
-pub two : (l : List ℕ) (i a b : ℕ) → Wrote l i (a ∷ b ∷ []) (set (set l i a) (i + 1) b) (i + 2)
-two l i a b =
-    let e : i + 1 ≡ suc i = omega arith in
-    record { text = rw e; end = refl }
-
 pub four : (l : List ℕ) (i a b c d : ℕ) → Wrote l i (a ∷ b ∷ c ∷ d ∷ []) (set (set (set (set l i a) (i + 1) b) (i + 2) c) (i + 3) d) (i + 4)
 four l i a b c d =
     let e : i + 1 ≡ suc i = omega arith in
@@ -126,16 +122,19 @@ four l i a b c d =
     let g : i + 3 ≡ suc (suc (suc i)) = omega arith in
     record { text = rw (e, f, g); end = refl }
 
-pub eight : (l : List ℕ) (i a b c d e f g h : ℕ) → Wrote l i (a ∷ b ∷ c ∷ d ∷ e ∷ f ∷ g ∷ h ∷ []) (set (set (set (set (set (set (set (set l i a) (i + 1) b) (i + 2) c) (i + 3) d) (i + 4) e) (i + 5) f) (i + 6) g) (i + 7) h) (i + 8)
-eight l i a b c d e f g h =
-    let e₁ : i + 1 ≡ suc i = omega arith in
-    let e₂ : i + 2 ≡ suc (suc i) = omega arith in
-    let e₃ : i + 3 ≡ suc (suc (suc i)) = omega arith in
-    let e₄ : i + 4 ≡ suc (suc (suc (suc i))) = omega arith in
-    let e₅ : i + 5 ≡ suc (suc (suc (suc (suc i)))) = omega arith in
-    let e₆ : i + 6 ≡ suc (suc (suc (suc (suc (suc i))))) = omega arith in
-    let e₇ : i + 7 ≡ suc (suc (suc (suc (suc (suc (suc i)))))) = omega arith in
-    record { text = rw (e₁, e₂, e₃, e₄, e₅, e₆, e₇); end = refl }
+-- a store below others, which may come first
+set_sets : (l : List ℕ) (i j a : ℕ) (t : List ℕ) → i < j → set (sets l j t) i a ≡ sets (set l i a) j t
+set_sets l i j a [] h = refl
+set_sets l i j a (b ∷ t) h = set_sets (set l j b) i (suc j) a t (omega arith) ∙ ap (λ (m : List ℕ). sets m (suc j) t) (set_comm l j i b a (λ e. absurd (let z : ⊥ = omega arith in z)))
+
+pub one_before : (l t : List ℕ) (i a : ℕ) {m : List ℕ} {j : ℕ} → j ≡ i + 1 → m ≡ sets l j t → set m i a ≡ sets l i (a ∷ t)
+one_before l t i a {m} {j} e p =
+    ap (λ (o : List ℕ). set o i a) p ∙ set_sets l i j a t (omega arith) ∙ ap (λ (k : ℕ). sets (set l i a) k t) (omega arith)
+
+pub two_before : (l t : List ℕ) (i a b : ℕ) {m : List ℕ} {j : ℕ} → j ≡ i + 2 → m ≡ sets l j t → set (set m i a) (i + 1) b ≡ sets l i (a ∷ b ∷ t)
+two_before l t i a b {m} {j} e p =
+    one_before (set l i a) t (i + 1) b (omega arith) (ap (λ (o : List ℕ). set o i a) p ∙ set_sets l i j a t (omega arith))
+    ∙ ap (λ (k : ℕ). sets (set l i a) k (b ∷ t)) (omega arith)
 
 -- text from the start of a buffer that has room for it
 pub filled : {l l' t : List ℕ} {e : ℕ} → Wrote l 0 t l' e → e ≤ length l → Filled t l l' e

@@ -1,5 +1,5 @@
 -- Numbers as text. "Floats are 16 hex digits of their bits, all else is decimal".
-use Rattle.std.specs.Prelude.{ℕ, zero, suc, ◌+◌, ◌*◌, ◌/◌, ◌%◌, ◌^◌, cond, List, [], ◌∷◌, ◌++◌, ltb, Float}
+use Rattle.std.specs.Prelude.{ℕ, zero, suc, ◌+◌, ◌/◌, ◌%◌, ◌^◌, cond, List, [], ◌∷◌, ◌++◌, ltb, Float}
 use Rattle.std.specs.Float.Ieee.{to_bits}
 use Rattle.std.specs.Float.{binary64}
 use Rattle.text.specs.Ascii.{ascii}
@@ -15,11 +15,6 @@ glyph d = cond (ltb d 10) (48 + d) (87 + d)
 unfoldable pub hex : ℕ → ℕ → List ℕ
 hex zero n = []
 hex (suc k) n = glyph (n / 16 ^ k % 16) ∷ hex k n
-
--- the number whose bytes these are, the least first
-unfoldable pub word : List ℕ → ℕ
-word [] = 0
-word (a ∷ l) = a + 256 * word l
 
 -- the last k decimal digits of n
 unfoldable pub digits : ℕ → ℕ → List ℕ

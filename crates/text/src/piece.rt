@@ -6,10 +6,7 @@ ghost use Rattle.text.specs.Wrote.{Wrote, Put};
 pub fn has_room(len: usize, at: usize, n: usize) -> bool
     ensures { result ≡ leb (at + n) len }
 {
-    if at > len {
-        return false;
-    }
-    n <= len - at
+    at <= len && n <= len - at
 }
 
 pub fn put_byte(out: &mut [u8], at: usize, b: u8) -> usize
@@ -23,14 +20,12 @@ pub fn put_byte(out: &mut [u8], at: usize, b: u8) -> usize
 }
 
 // A text that fits.
-fn copy(out: &mut [u8], at: usize, text: &[u8]) -> usize
+pub(crate) fn copy(out: &mut [u8], at: usize, text: &[u8]) -> usize
     requires { at + length text.now ≤ length out.old }
     ensures { Wrote out.old at text.now out.new result }
 {
-    let mut i = 0;
-    while i < text.len() {
+    for i in 0..text.len() {
         out[at + i] = text[i];
-        i += 1;
     }
     at + text.len()
 }

@@ -1,12 +1,13 @@
--- At once, where any number would fit, and else apart.
-use native.Mathlib.Omega.{arith}
-use Rattle.text.proofs.Writing.{roomy, allowed}
+-- The digits, where there is room for as many.
+use mathlib.Core.Path.{sym, ap, ◌∙◌}
+use native.Mathlib.Nat.{le_of_eq}
+use Rattle.text.specs.Digits.{digits}
+use Rattle.text.proofs.Writing.{allowed, named}
+use Rattle.text.proofs.Digits.{decimal_digits}
 use Rattle.text.proofs.decimal.put_decimal.Goals as goal
-
-pub put_any-requires : goal.put_any-requires
-put_any-requires c =
-    roomy c.has_room.ensures c.if-not-has_room.false
 
 pub returns : goal.returns
 returns c =
-    allowed c.has_room.ensures c.if-not-has_room.false (omega (arith, c.put_any.ensures.0.end)) c.put_any.ensures.0
+    let e = c.count_digits-count.ensures in
+    allowed c.has_room.ensures c.if-not-has_room.false (le_of_eq (sym e))
+    (named (ap (λ k. digits k c.args.n) e ∙ decimal_digits c.args.n) c.put_digits.ensures)

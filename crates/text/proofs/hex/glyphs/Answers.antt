@@ -1,6 +1,7 @@
 -- Three times each part is spread to two, until each holds a digit; then the codes are added to all at once (Spread).
+use mathlib.Core.Path.{◌∙◌}
 use native.Mathlib.Omega.{arith}
-use Rattle.text.proofs.Spread.{halves_are, halves_masked, bytes_are, bytes_masked, bytes_lt, digits_le, carries_le, glyphs_are}
+use Rattle.text.proofs.Spread.{halves_are, halves_masked, bytes_are, bytes_masked, bytes_lt, digits_le, carries_le, glyphs_are, hex_bytes}
 use Rattle.text.proofs.hex.glyphs.Goals as goal
 
 pub overflow_mul-bytes-2 : goal.overflow_mul-bytes-2
@@ -21,14 +22,14 @@ overflow_sub-digits c = let b = bytes_are c.args.x c.requires in let m = bytes_m
 pub overflow_add-past_9 : goal.overflow_add-past_9
 overflow_add-past_9 c = let d = digits_le c.args.x c.requires in omega arith
 
-pub overflow_add-result : goal.overflow_add-result
-overflow_add-result c = let d = digits_le c.args.x c.requires in omega arith
+pub overflow_add-codes : goal.overflow_add-codes
+overflow_add-codes c = let d = digits_le c.args.x c.requires in omega arith
 
-pub overflow_mul-result : goal.overflow_mul-result
-overflow_mul-result c = let k = carries_le c.args.x c.requires in omega arith
+pub overflow_mul-codes : goal.overflow_mul-codes
+overflow_mul-codes c = let k = carries_le c.args.x c.requires in omega arith
 
-pub overflow_add-result-2 : goal.overflow_add-result-2
-overflow_add-result-2 c = let d = digits_le c.args.x c.requires in let k = carries_le c.args.x c.requires in omega arith
+pub overflow_add-codes-2 : goal.overflow_add-codes-2
+overflow_add-codes-2 c = let d = digits_le c.args.x c.requires in let k = carries_le c.args.x c.requires in omega arith
 
 pub returns : goal.returns
-returns c = glyphs_are c.args.x c.requires
+returns c = c.to_le_bytes.ensures ∙ hex_bytes c.args.x _ (glyphs_are c.args.x c.requires)

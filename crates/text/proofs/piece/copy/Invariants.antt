@@ -1,12 +1,7 @@
 -- After i turns the first i bytes of the text stand in the buffer.
 use mathlib.Core.Path.{◌≡◌}
-use Prim.Native.Nat.{◌-◌, ◌≤◌}
-use lib.ListN.{length, take}
-use lib.Seq.{sets}
+use lib.Seq.{paste}
 use Rattle.text.proofs.piece.copy.Given as goal
 
 abbrev pub invariant-loop-i : goal.invariant-loop-i
-invariant-loop-i l = (l.i ≤ length l.text) × (length l.out ≡ length l.initial.out) × (l.out ≡ sets l.initial.out l.at (take l.i l.text))
-
-abbrev pub decreases-loop-i : goal.decreases-loop-i
-decreases-loop-i l = length l.text - l.i
+invariant-loop-i l = l.out ≡ paste l.initial.out l.at l.text l.i
