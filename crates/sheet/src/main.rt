@@ -14,15 +14,14 @@ fn say(rt: &impl Eprint, words: &str) {
 }
 
 fn answer(rt: &HostRuntime, bytes: &[u8]) {
-    if !write_sheet(&mut rt.stdout(), bytes) {
+    if write_sheet(&mut rt.stdout(), bytes).is_err() {
         say(rt, "sheet: the output could not be written\n");
     }
 }
 
 fn main(rt: HostRuntime) {
     let mut buffer = [0u8; SHEET_BYTES + 1];
-    let input = read_input(&mut rt.stdin(), &mut buffer);
-    match input {
+    match read_input(&mut rt.stdin(), &mut buffer) {
         Input::Failed => say(&rt, "sheet: the input could not be read\n"),
         Input::Read(n) => answer(&rt, &buffer[..n]),
     }
