@@ -1,5 +1,6 @@
 -- The theorems: Whole, OldSheets, RetiredSheets, Viewing, Same, Example. Sheets has what the program uses.
-mod Tests
+mod Ranges
+mod Given
 mod Lengths
 mod Joined
 mod Fill

@@ -10,7 +10,7 @@ use borrow.Author.Tests.{lt-ltb, le-ltb}
 use Rattle.text.specs.Wrote.{Filled}
 use Rattle.text.proofs.Writing.{no_piece, filled}
 use Rattle.job.specs.declared.header.Header.{Header}
-use Rattle.job.specs.Header.{header_value, header_good, closed, retired, Headed}
+use Rattle.job.specs.Header.{header_value, header_good, closed, retired}
 use Rattle.job.specs.Outline.{vertex_in_of}
 use Rattle.job.specs.Extent.{box_to, last_segment_of}
 use Rattle.job.specs.Sheet.{views}
@@ -56,16 +56,16 @@ module _ (b : List ℕ) (s l : List Float) (k : ℕ) where
 
 -- ---- the box line
 
-module _ (b : List ℕ) (h : Header) (g : Headed b h) where
+module _ (b : List ℕ) (h : Header) (is : h ≡ header_value b) where
   pub no_box : h.vertices < 2 → no_box_words ++ box_end (retired h) ≡ box_line b
   unfolding box_line
   no_box p =
-      let n : (header_value b).vertices ≡ h.vertices = ap (λ (k : Header). k.vertices) (sym g.is) in
-      simp (lt-ltb (header_value b).vertices 2 (omega arith)) (ap (λ (k : Header). no_box_words ++ box_end (retired k)) g.is)
+      let n : (header_value b).vertices ≡ h.vertices = ap (λ (k : Header). k.vertices) (sym is) in
+      simp (lt-ltb (header_value b).vertices 2 (omega arith)) (ap (λ (k : Header). no_box_words ++ box_end (retired k)) is)
 
   pub some_box : 2 ≤ h.vertices → box_words (box_to (vertex_in_of b) h.vertices (last_segment_of (closed h) h.vertices)) ++ box_end (retired h) ≡ box_line b
   unfolding box_line
   some_box p =
-      let n : (header_value b).vertices ≡ h.vertices = ap (λ (k : Header). k.vertices) (sym g.is) in
+      let n : (header_value b).vertices ≡ h.vertices = ap (λ (k : Header). k.vertices) (sym is) in
       simp (le-ltb (header_value b).vertices 2 (omega arith))
-      (ap (λ (k : Header). box_words (box_to (vertex_in_of b) k.vertices (last_segment_of (closed k) k.vertices)) ++ box_end (retired k)) g.is)
+      (ap (λ (k : Header). box_words (box_to (vertex_in_of b) k.vertices (last_segment_of (closed k) k.vertices)) ++ box_end (retired k)) is)

@@ -16,15 +16,14 @@ use Rattle.view.specs.Answers.{buffer_after}
 use Rattle.lists.proofs.Tab.{length_tab}
 use Rattle.job.specs.declared.header.Header.{Header}
 use Rattle.job.specs.declared.sheet.Opened.{Opened}
-use Rattle.job.specs.Header.{header_value, header_good, Headed}
+use Rattle.job.specs.Header.{header_value, header_good}
 use Rattle.job.specs.Outline.{vertex_in_of, numbers_in}
 use Rattle.job.specs.Sheet.{vertices, views, outline_of, records_ok, vertices_ok, sheet_of, sheet_bytes, outline_numbers, open_of, open_buffer}
 use Rattle.real.proofs.Replies.{check_given, same_given}
 use Rattle.job.proofs.Heads.{headed}
 
-module _ (b : List ℕ) (h : Header) (g : Headed b h) where
-  pub vertices_by : all (λ k. vertex_ok double (vertex_in_of b k)) h.vertices ≡ vertices_ok b
-  vertices_by = ap (λ (k : Header). all (λ j. vertex_ok double (vertex_in_of b j)) k.vertices) g.is
+pub vertices_by : (b : List ℕ) (h : Header) → h ≡ header_value b → all (λ k. vertex_ok double (vertex_in_of b k)) h.vertices ≡ vertices_ok b
+vertices_by b h e = ap (λ (k : Header). all (λ j. vertex_ok double (vertex_in_of b j)) k.vertices) e
 
 -- ---- an accepted sheet
 
@@ -52,7 +51,7 @@ too_long b n = simp (go (header_good b) refl)
   where
     go : (t : Bool) → header_good b ≡ t → header_good b ≡ false
     go false e = e
-    go true e = let h = headed b (header_value b) e refl in absurd (omega (arith, h.size, h.vertices, h.views))
+    go true e = let h = headed b (header_value b) e refl in absurd (omega (arith, h.size, h.offset, h.vertices, h.views))
 
 -- ---- opening it
 

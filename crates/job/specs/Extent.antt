@@ -37,8 +37,3 @@ module _ (src : ℕ → PlineVertex) (n : ℕ) where
 -- the last segment of two vertices or more: the closing one only if closed
 abbrev pub last_segment_of : Bool → ℕ → ℕ
 last_segment_of closed n = cond closed (n - 1) (n - 2)
-
--- what the inner functions ask: bytes that hold n vertices, each in range
-pub record Sound (b : List ℕ) (n : ℕ) : Type 0 where
-  pub room : 16 + 24 * n ≤ length b
-  pub each : all (λ k. vertex_ok double (vertex_in_of b k)) n ≡ true

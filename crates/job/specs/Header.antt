@@ -1,5 +1,5 @@
 -- A sheet's header.
-use Rattle.std.specs.Prelude.{◌≡◌, ℕ, ◌+◌, ◌*◌, ◌/◌, ◌%◌, ◌≤◌, Bool, true, ◌&&◌, List, length, ltb, leb, eqb}
+use Rattle.std.specs.Prelude.{ℕ, ◌+◌, ◌*◌, ◌/◌, ◌%◌, Bool, ◌&&◌, List, length, ltb, leb, eqb}
 use Rattle.plane.specs.Range.{most_vertices}
 use Rattle.record.specs.Bytes.{le16, le32}
 use Rattle.record.specs.Layout.{record_size}
@@ -57,11 +57,3 @@ header_fits_of = header_under most_vertices
 
 unfoldable pub header_good : List ℕ → Bool
 header_good b = header_fits_of (header_value b) (length b)
-
--- what the inner functions ask: h is the header of a sheet b that has a good one, and what that says of its numbers
-pub record Headed (b : List ℕ) (h : Header) : Type 0 where
-  pub is : h ≡ header_value b
-  pub sound : header_good b ≡ true
-  pub vertices : h.vertices ≤ most_vertices
-  pub views : h.views ≤ most_views
-  pub size : length b ≡ header_size + vertex_size * h.vertices + record_size * h.views

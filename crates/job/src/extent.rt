@@ -1,12 +1,11 @@
 // The box of all segments of a sheet's outline.
 ghost use Rattle.std.specs.Prelude.{◌≡◌, true, ◌<◌};
-ghost use Rattle.plane.specs.Grade.{double};
-ghost use Rattle.plane.specs.Range.{seg_ok};
 ghost use Rattle.job.specs.Outline.{vertex_in_of};
+ghost use Rattle.job.specs.Sheet.{vertices_ok};
 ghost use Rattle.job.specs.Extent as spec;
 
-use crate::outline::vertex_in;
-use plane::{LINE_LIMIT, PlineVertex};
+use crate::header::Sheet;
+use plane::LINE_LIMIT;
 use seg::{Bounds, seg_bounding_box};
 
 fn lesser(edge: f64, other: f64) -> f64
@@ -33,43 +32,28 @@ fn wider(a: Bounds, b: Bounds) -> Bounds
     }
 }
 
-// The box of a segment whose vertices are in range, so that none is refused.
-fn segment_box(v1: PlineVertex, v2: PlineVertex) -> Bounds
-    requires { seg_ok double v1 v2 ≡ true }
-    ensures { result ≡ spec.segment_box_of v1 v2 }
-{
-    let answer = seg_bounding_box(v1, v2, LINE_LIMIT);
-    match answer {
-        Ok(b) => b,
-        Err(_) => Bounds {
-            min_x: v1.x,
-            min_y: v1.y,
-            max_x: v1.x,
-            max_y: v1.y,
-        },
+impl Sheet<'_> {
+    // The box of the segment that starts at vertex k: with the vertices in range it is not refused.
+    fn segment_box(&self, k: usize) -> Bounds
+        requires sound { vertices_ok self.now.bytes.now ≡ true }
+        requires inside { k < self.now.header.vertices }
+        ensures { result ≡ spec.box_at_of (vertex_in_of self.now.bytes.now) self.now.header.vertices k }
+    {
+        let v1 = self.vertex(k);
+        let v2 = self.vertex((k + 1) % self.header.vertices);
+        seg_bounding_box(v1, v2, LINE_LIMIT).unwrap()
     }
-}
 
-// The box of the segment that starts at vertex k, of n vertices.
-fn box_at(bytes: &[u8], n: usize, k: usize) -> Bounds
-    requires { (spec.Sound bytes.now n) × (k < n) }
-    ensures { result ≡ spec.box_at_of (vertex_in_of bytes.now) n k }
-{
-    let v1 = vertex_in(bytes, k);
-    let v2 = vertex_in(bytes, (k + 1) % n);
-    segment_box(v1, v2)
-}
-
-// The box of the segments 0 to `last`.
-pub(crate) fn outline_box(bytes: &[u8], n: usize, last: usize) -> Bounds
-    requires { (spec.Sound bytes.now n) × (last < n) }
-    ensures { result ≡ spec.box_to (vertex_in_of bytes.now) n last }
-{
-    let mut b = box_at(bytes, n, 0);
-    let mut k = 0;
-    while k < last {
-        k += 1;
-        b = wider(b, box_at(bytes, n, k));
+    // The box of the segments 0 to `last`.
+    pub(crate) fn outline_box(&self, last: usize) -> Bounds
+        requires sound { vertices_ok self.now.bytes.now ≡ true }
+        requires inside { last < self.now.header.vertices }
+        ensures { result ≡ spec.box_to (vertex_in_of self.now.bytes.now) self.now.header.vertices last }
+    {
+        let mut b = self.segment_box(0);
+        for k in 0..last {
+            b = wider(b, self.segment_box(k + 1));
+        }
+        b
     }
-    b
 }

@@ -10,30 +10,26 @@ use text::{put_byte, put_decimal, put_float, put_text};
 use view::Mark;
 
 // A word, a number and a byte.
-fn put_worded(out: &mut [u8], at: usize, word: &[u8], number: usize, end: u8) -> usize
+fn put_worded(out: &mut [u8], at: usize, word: &[u8], number: u64, end: u8) -> usize
     ensures { Piece out.old at (word.now ++ decimal number ++ end ∷ []) out.new result }
 {
     let a = put_text(out, at, word);
-    let b = put_decimal(out, a, number as u64);
+    let b = put_decimal(out, a, number);
     put_byte(out, b, end)
 }
 
 // All that a refused sheet prints, and the end of a refused view's line.
-pub(crate) fn put_refused(out: &mut [u8], at: usize, number: usize) -> usize
+pub(crate) fn put_refused(out: &mut [u8], at: usize, number: u8) -> usize
     ensures { Piece out.old at (spec.refused_line number) out.new result }
 {
-    put_worded(out, at, b"refused ", number, b'\n')
+    put_worded(out, at, b"refused ", number as u64, b'\n')
 }
 
 // The one text where the flag is set, the other where it is clear.
 fn put_either(out: &mut [u8], at: usize, flag: bool, set: &[u8], clear: &[u8]) -> usize
     ensures { Put out.old at (cond flag set.now clear.now) out.new result }
 {
-    if flag {
-        put_text(out, at, set)
-    } else {
-        put_text(out, at, clear)
-    }
+    put_text(out, at, if flag { set } else { clear })
 }
 
 pub(crate) fn put_outline(out: &mut [u8], vertices: usize, views: usize, closed: bool) -> usize
@@ -79,10 +75,10 @@ pub(crate) fn put_no_box(out: &mut [u8], retired: bool) -> usize
 fn put_head(out: &mut [u8], k: usize) -> usize
     ensures { Piece out.old 0 (spec.view_head k) out.new result }
 {
-    put_worded(out, 0, b"view ", k, b' ')
+    put_worded(out, 0, b"view ", k as u64, b' ')
 }
 
-pub(crate) fn put_refused_view(out: &mut [u8], k: usize, number: usize) -> usize
+pub(crate) fn put_refused_view(out: &mut [u8], k: usize, number: u8) -> usize
     ensures { Piece out.old 0 (spec.view_head k ++ spec.refused_line number) out.new result }
 {
     let a = put_head(out, k);
@@ -102,7 +98,7 @@ fn put_mark(out: &mut [u8], at: usize, mark: Mark) -> usize
 pub(crate) fn put_view_line(
     out: &mut [u8],
     k: usize,
-    verdict: usize,
+    verdict: u8,
     mark: Mark,
     count: usize,
     cut_number: u32,
@@ -113,5 +109,5 @@ pub(crate) fn put_view_line(
     let b = put_decimal(out, a, verdict as u64);
     let c = put_mark(out, b, mark);
     let d = put_decimal(out, c, count as u64);
-    put_worded(out, d, b" ", cut_number as usize, b'\n')
+    put_worded(out, d, b" ", cut_number as u64, b'\n')
 }

@@ -22,11 +22,8 @@ pub(crate) fn put_rows(out: &mut [u8], at: usize, list: &[f64], n: usize) -> usi
     ensures { Piece out.old at (spec.rows list.now n) out.new result }
 {
     let mut e = at;
-    let mut k = 0;
-    while k < n {
-        let i = 3 * k;
-        e = put_row(out, e, k, list[i], list[i + 1], list[i + 2]);
-        k += 1;
+    for k in 0..n {
+        e = put_row(out, e, k, list[3 * k], list[3 * k + 1], list[3 * k + 2]);
     }
     e
 }

@@ -1,12 +1,9 @@
 // A sheet as a whole: its check, and its outline in a lent buffer.
 ghost use Rattle.std.specs.Prelude.{◌≡◌, length};
 ghost use Rattle.real.specs.Reply.{reply};
-ghost use Rattle.job.specs.Header.{Headed};
 ghost use Rattle.job.specs.Sheet as spec;
 
-use crate::header::{Header, header_is_sound, header_of};
-use crate::outline::{decode, vertices_are_sound};
-use crate::records::records_are_sound;
+use crate::header::Sheet;
 use crate::size::OUTLINE_NUMBERS;
 use real::Refusal;
 
@@ -17,30 +14,29 @@ pub struct Opened {
     pub parts: usize,
 }
 
-// Checks what follows the header h, and decodes the outline.
-fn open_after(bytes: &[u8], h: Header, outline: &mut [f64]) -> Result<Opened, Refusal>
-    requires { (Headed bytes.now h) × (length outline.old ≡ spec.outline_numbers) }
-    ensures { (reply result ≡ spec.open_of bytes.now) × (outline.new ≡ spec.open_buffer bytes.now outline.old) }
-{
-    if !records_are_sound(bytes, h) {
-        return Err(Refusal::BadRecord);
+impl Sheet<'_> {
+    // Checks what follows the header, and decodes the outline.
+    fn open(&self, outline: &mut [f64]) -> Result<Opened, Refusal>
+        requires { length outline.old ≡ spec.outline_numbers }
+        ensures { (reply result ≡ spec.open_of self.now.bytes.now) × (outline.new ≡ spec.open_buffer self.now.bytes.now outline.old) }
+    {
+        if !self.records_are_sound() {
+            return Err(Refusal::BadRecord);
+        }
+        if !self.vertices_are_sound() {
+            return Err(Refusal::BadNumber);
+        }
+        self.decode(outline);
+        Ok(Opened {
+            numbers: 3 * self.header.vertices,
+            parts: self.header.views + 2,
+        })
     }
-    if !vertices_are_sound(bytes, h.vertices) {
-        return Err(Refusal::BadNumber);
-    }
-    decode(bytes, 3 * h.vertices, outline);
-    Ok(Opened {
-        numbers: 3 * h.vertices,
-        parts: h.views + 2,
-    })
 }
 
 // Checks a sheet and decodes its outline into the buffer's start.
 pub fn open_sheet(bytes: &[u8], outline: &mut [f64; OUTLINE_NUMBERS]) -> Result<Opened, Refusal>
     ensures { (reply result ≡ spec.open_of bytes.now) × (outline.new ≡ spec.open_buffer bytes.now outline.old) }
 {
-    if !header_is_sound(bytes) {
-        return Err(Refusal::BadSheet);
-    }
-    open_after(bytes, header_of(bytes), outline)
+    Sheet::read(bytes)?.open(outline)
 }

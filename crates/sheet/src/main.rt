@@ -11,7 +11,7 @@ use job::SHEET_BYTES;
 use output::write_sheet;
 
 fn answer(rt: &HostRuntime, bytes: &[u8]) {
-    if !write_sheet(&mut rt.stdout(), bytes) {
+    if write_sheet(&mut rt.stdout(), bytes).is_err() {
         say(rt, "sheet: the output could not be written\n");
     }
 }

@@ -1,24 +1,27 @@
 -- Without a good header there is no part; else the part stands at the buffer's start.
-use mathlib.Core.Path.{subst}
+use mathlib.Core.Path.{ap, subst, ◌∙◌}
 use mathlib.Core.List.{List}
 use Prim.Native.Nat.{ℕ}
 use native.Mathlib.Omega.{arith}
-use Rattle.real.proofs.Pick.{passed, failed}
+use denote.Bor.{Bor}
+use Rattle.real.specs.Refusal.{bad_sheet}
+use Rattle.real.proofs.Replies.{same_given, check_passed, check_failed}
 use Rattle.text.specs.Wrote.{Filled}
-use Rattle.job.proofs.Heads.{headed}
 use Rattle.text.proofs.Writing.{nothing}
-use Rattle.job.proofs.Parting.{no_part, part_filled}
+use Rattle.job.specs.Parts.{part_text, part_buffer}
+use Rattle.job.proofs.Parting.{no_part, named_part, part_filled}
 use Rattle.job.proofs.part.sheet_part.Goals as goal
 
-pub returns-then-not-header_is_sound : goal.returns-then-not-header_is_sound
-returns-then-not-header_is_sound c =
+pub returns-in_default : goal.returns-in_default
+returns-in_default c =
     let a = c.args in
-    let p = no_part a.bytes.now a.outline.now a.list.now a.k (failed c.header_is_sound.ensures c.if-not-header_is_sound.true) in
+    let p = no_part a.bytes.now a.outline.now a.list.now a.k (check_failed bad_sheet _ c.in_default.ensures).0 in
     (subst (λ (t : List ℕ). Filled t a.out.now a.out.now 0) p.0 (nothing a.out.now), p.1)
 
-pub put_part-requires : goal.put_part-requires
-put_part-requires c =
-    (headed _ _ (passed c.header_is_sound.ensures c.if-not-header_is_sound.false) c.header_of.ensures, omega arith)
-
 pub returns : goal.returns
-returns c = (part_filled c.put_part.ensures.0 (omega arith), c.put_part.ensures.1)
+returns c =
+    let a = c.args in
+    let e = ap (λ (b : Bor (List ℕ)). b.now) (same_given (check_passed bad_sheet _ c.in-Ok.ensures).1) in (
+      part_filled (named_part (ap (λ (b : List ℕ). part_text b a.outline.now a.k) e) c.put_part.ensures.text) (omega arith),
+      c.put_part.ensures.list ∙ ap (λ (b : List ℕ). part_buffer b a.outline.now a.k a.list.now) e,
+    )

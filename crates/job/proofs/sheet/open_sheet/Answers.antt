@@ -1,15 +1,22 @@
 -- The header's check, and the rest by its promise.
-use borrow.Author.Rules.{rules}
-use Rattle.real.proofs.Pick.{passed, failed}
+use mathlib.Core.Path.{ap, ◌∙◌}
+use mathlib.Core.List.{List}
+use Prim.Native.Nat.{ℕ}
+use denote.Bor.{Bor}
+use Rattle.real.specs.Refusal.{bad_sheet}
+use Rattle.real.specs.Reply.{refused}
+use Rattle.real.proofs.Replies.{same_given, check_passed, check_failed, handed}
 use Rattle.view.specs.Answers.{buffer_after}
 use Rattle.job.specs.Sheet.{sheet_of, open_of, open_buffer}
-use Rattle.job.proofs.Heads.{headed}
 use Rattle.job.proofs.sheet.open_sheet.Goals as goal
 
-pub returns-then-not-header_is_sound : goal.returns-then-not-header_is_sound
-unfolding open_of open_buffer sheet_of buffer_after
-returns-then-not-header_is_sound c = let e = failed c.header_is_sound.ensures c.if-not-header_is_sound.true in (simp e, simp e)
+pub returns : goal.returns
+returns c =
+    let e = ap (λ (b : Bor (List ℕ)). b.now) (same_given (check_passed bad_sheet _ c.in_ok-read.ensures).1) in
+    (c.open.ensures.0 ∙ ap open_of e, c.open.ensures.1 ∙ ap (λ (b : List ℕ). open_buffer b c.args.outline.now) e)
 
-pub open_after-requires : goal.open_after-requires
-open_after-requires c =
-    (headed _ _ (passed c.header_is_sound.ensures c.if-not-header_is_sound.false) c.header_of.ensures, search rules)
+pub returns-in_err-read : goal.returns-in_err-read
+unfolding open_of open_buffer sheet_of buffer_after
+returns-in_err-read c =
+    let e = check_failed bad_sheet _ c.in_err-read.ensures in
+    (simp e.0 (handed _ _ c.from_residual.ensures ∙ ap refused e.1), simp e.0)
