@@ -1,42 +1,23 @@
 // Reading standard input.
-ghost use Rattle.std.specs.Prelude.{length};
-ghost use Rattle.console.specs.Within.{Within};
+ghost use Rattle.std.specs.Prelude.{◌<◌, ◌≤◌, length, IfOk};
+ghost use Rattle.std.specs.Io.KnownBytes.{Consumes, IsAtEnd};
 
+use std::io;
 use std::io::Read;
 
-// How many bytes were read, from the buffer's start.
-#[derive(Clone, Copy)]
-pub enum Input {
-    Read(usize),
-    Failed,
-}
-
-// One read; at the end of the input, of no byte.
-fn read_some<R: Read>(reader: &mut R, buf: &mut [u8]) -> Input
-    ensures { Within result (length buf.old) }
-{
-    match reader.read(buf) {
-        Ok(n) => Input::Read(n),
-        Err(_) => Input::Failed,
-    }
-}
-
-// Reads until the buffer is full or the input ends.
-pub fn read_input<R: Read>(reader: &mut R, buf: &mut [u8]) -> Input
-    ensures { Within result (length buf.new) }
+// Reads until the buffer is full or the input ends, and gives what was read.
+pub fn read_input<'a, R: Read>(reader: &mut R, buf: &'a mut [u8]) -> io::Result<&'a [u8]>
+    ensures within { IfOk result (λ read. length read.now ≤ length buf.old) }
+    ensures bytes { IfOk result (λ read. Consumes (R.remaining reader.old) (R.remaining reader.new) read.now) }
+    ensures all { IfOk result (λ read. length read.now < length buf.old → IsAtEnd (R.remaining reader.new)) }
 {
     let mut done = 0;
     while done < buf.len() {
-        let step = read_some(reader, &mut buf[done..]);
-        match step {
-            Input::Failed => return Input::Failed,
-            Input::Read(n) => {
-                if n == 0 {
-                    return Input::Read(done);
-                }
-                done += n;
-            }
+        let n = reader.read(&mut buf[done..])?;
+        if n == 0 {
+            break;
         }
+        done += n;
     }
-    Input::Read(done)
+    Ok(&buf[..done])
 }

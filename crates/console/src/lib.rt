@@ -4,5 +4,5 @@
 mod input;
 mod words;
 
-pub use input::{Input, read_input};
+pub use input::read_input;
 pub use words::say;

@@ -2,7 +2,7 @@
 use mathlib.Core.Path.{◌≡◌, refl, sym, ap, ap₂, ◌∙◌, subst}
 use mathlib.Core.List.{List, [], ◌∷◌, ◌++◌}
 use mathlib.Core.Bool.{Bool, true, false, cond, ◌&&◌, true≢false}
-use mathlib.Core.Option.{Option, none, some, none-ne-some, some-injective}
+use Rattle.std.specs.Prelude.{Option, None, Some}
 use Prim.Native.Nat.{ℕ, ◌+◌, ◌-◌, ◌*◌, ◌/◌, ◌%◌, ◌≤◌}
 use native.Mathlib.Omega.{arith}
 use lib.ListN.{length, take, drop, length-set, length-append}
@@ -32,11 +32,11 @@ use Rattle.dxf.specs.declared.outline.DxfOutline.{DxfOutline}
 record Kept (s : Seen) : Type 0 where
   pub threes : length s.numbers % 3 ≡ 0
   pub held : Every Held s.numbers
-  pub x : (x : Float) → s.waits ≡ some x → Held x
+  pub x : (x : Float) → s.waits ≡ Some x → Held x
 
 kept_start : Kept start
 unfolding Every
-kept_start = record { threes = refl; held = tt; x = λ x e. absurd (none-ne-some x e) }
+kept_start = record { threes = refl; held = tt; x = λ x e. absurd (cc) }
 
 zero_held : Held double.zero
 zero_held = of_bits-fits binary64 0
@@ -64,7 +64,7 @@ module _ (s r : Seen) (k : Kept s) where
     unfolding x_step
     x_kept e =
         let w = went_on (number_of v) _ e in
-        is _ w.2 (record { threes = k.threes; held = k.held; x = λ y g. subst Held (some-injective _ _ g) (number_held v w.0 w.1) })
+        is _ w.2 (record { threes = k.threes; held = k.held; x = λ y g. let q : w.0 ≡ y = cc in subst Held q (number_held v w.0 w.1) })
 
     y_kept : (x : Float) → Held x → y_step s x v ≡ given r → Kept r
     unfolding y_step Every
@@ -73,7 +73,7 @@ module _ (s r : Seen) (k : Kept s) where
         is _ w.2 record {
           threes = ap (λ (n : ℕ). n % 3) (length-append s.numbers (x ∷ w.0 ∷ double.zero ∷ [])) ∙ more (length s.numbers) k.threes;
           held = every_append Held s.numbers _ k.held (h, (number_held v w.0 w.1, (zero_held, tt)));
-          x = λ y g. absurd (none-ne-some y g);
+          x = λ y g. absurd (cc);
         }
       where
         more : (n : ℕ) → n % 3 ≡ 0 → (n + 3) % 3 ≡ 0
@@ -94,8 +94,8 @@ module _ (s r : Seen) (k : Kept s) where
     step_kept c = go s.waits refl
       where
         go : (o : Option Float) → s.waits ≡ o → step_from o s c v ≡ given r → Kept r
-        go (some x) w = unfold step_from in either (eqb c 20) _ _ (y_kept x (k.x x w)) never_given
-        go none w = unfold step_from in
+        go (Some x) w = unfold step_from in either (eqb c 20) _ _ (y_kept x (k.x x w)) never_given
+        go None w = unfold step_from in
             either (eqb c 90) _ _ count_kept
             (either (eqb c 70) _ _ closed_kept
             (either (eqb c 10) _ _ x_kept

@@ -1,6 +1,5 @@
 -- The accepted text: the first LWPOLYLINE of a file, pair by pair.
-use Rattle.std.specs.Prelude.{ℕ, ◌-◌, ◌%◌, Bool, true, false, cond, ◌&&◌, List, [], ◌∷◌, ◌++◌, length, set, leb, eqb, Float}
-use Rattle.std.proofs.Math.Option.{Option, none, some}
+use Rattle.std.specs.Prelude.{ℕ, ◌-◌, ◌%◌, Bool, true, false, cond, ◌&&◌, List, [], ◌∷◌, ◌++◌, length, set, leb, eqb, Float, Option, None, Some}
 use Rattle.real.specs.Refusal.{bad_text}
 use Rattle.real.specs.Reply.{Reply, refused, given, check, and_then}
 use Rattle.plane.specs.Grade.{double}
@@ -20,13 +19,13 @@ pub record Seen : Type 0 where
 
 -- "70 absent means 0"
 abbrev pub start : Seen
-start = record { count = none; closed = false; waits = none; numbers = [] }
+start = record { count = None; closed = false; waits = None; numbers = [] }
 
 -- ---- what each code does with its value v
 
 -- "90 count", "digits only, the last of several counts"
 unfoldable pub count_step : Seen → List ℕ → Reply Seen
-count_step s v = check (is_whole v) bad_text (given (record { count = some (value_of v); closed = s.closed; waits = s.waits; numbers = s.numbers }))
+count_step s v = check (is_whole v) bad_text (given (record { count = Some (value_of v); closed = s.closed; waits = s.waits; numbers = s.numbers }))
 
 -- "70 closed if odd", "digits only, the last of several counts"
 unfoldable pub closed_step : Seen → List ℕ → Reply Seen
@@ -34,10 +33,10 @@ closed_step s v = check (is_whole v) bad_text (given (record { count = s.count; 
 
 -- "10 and 20 position, 42 bulge, absent meaning 0"
 unfoldable pub x_step : Seen → List ℕ → Reply Seen
-x_step s v = and_then (number_of v) (λ x. given (record { count = s.count; closed = s.closed; waits = some x; numbers = s.numbers }))
+x_step s v = and_then (number_of v) (λ x. given (record { count = s.count; closed = s.closed; waits = Some x; numbers = s.numbers }))
 
 unfoldable pub y_step : Seen → Float → List ℕ → Reply Seen
-y_step s x v = and_then (number_of v) (λ y. given (record { count = s.count; closed = s.closed; waits = none; numbers = s.numbers ++ (x ∷ y ∷ double.zero ∷ []) }))
+y_step s x v = and_then (number_of v) (λ y. given (record { count = s.count; closed = s.closed; waits = None; numbers = s.numbers ++ (x ∷ y ∷ double.zero ∷ []) }))
 
 -- "a 42 belongs to the vertex before it, the last one counts, and a 42 before any vertex is an odd line"
 unfoldable pub bulge_step : Seen → List ℕ → Reply Seen
@@ -47,8 +46,8 @@ bulge_step s v =
 
 -- "Each 10 begins a vertex, whose 20 must follow at once"; "as is any other 20"; "other codes are skipped in pairs"
 unfoldable pub step_from : Option Float → Seen → ℕ → List ℕ → Reply Seen
-step_from (some x) s c v = cond (eqb c 20) (y_step s x v) (refused bad_text)
-step_from none s c v =
+step_from (Some x) s c v = cond (eqb c 20) (y_step s x v) (refused bad_text)
+step_from None s c v =
     cond (eqb c 90) (count_step s v)
     (cond (eqb c 70) (closed_step s v)
     (cond (eqb c 10) (x_step s v)
@@ -61,12 +60,12 @@ step_of s c v = step_from s.waits s c v
 -- ---- the entity
 
 unfoldable pub counts : Option ℕ → ℕ → Bool
-counts none n = false
-counts (some c) n = eqb c n
+counts None n = false
+counts (Some c) n = eqb c n
 
 unfoldable pub settled : Option Float → Bool
-settled none = true
-settled (some x) = false
+settled None = true
+settled (Some x) = false
 
 -- "or a count absent or different"; nor may a 10 wait
 unfoldable pub end_of : Seen → Reply Seen

@@ -1,11 +1,11 @@
 -- Lines in pairs, a code and its value: "A code is 1 to 4 digits."
-use Rattle.std.specs.Prelude.{ℕ, ◌+◌, ◌≤◌, Bool, cond, ◌&&◌, ◌≡◌, List, [], ◌∷◌, length, drop, leb}
-use Rattle.real.specs.Refusal.{bad_text}
+use Rattle.std.specs.Prelude.{ℕ, ◌+◌, ◌≤◌, Bool, cond, ◌&&◌, ◌≡◌, List, [], ◌∷◌, length, leb, Option, None, Some, Result, Ok, Err, MatchOption}
+use Rattle.real.specs.Refusal.{bad_text, number_of}
 use Rattle.real.specs.Reply.{Reply, given, check}
 use Rattle.numeral.specs.Digits.{is_whole, value_of}
-use Rattle.dxf.specs.Line.{lines_of, part}
-use Rattle.dxf.specs.declared.item.ItemAnswer.{ItemAnswer}
-use Rattle.dxf.specs.declared.item.ItemAnswer.TheVariants as item-case
+use Rattle.real.specs.declared.refusal.Refusal.{Refusal}
+use Rattle.dxf.specs.Line.{lines_of}
+use Rattle.dxf.specs.declared.item.Entry.{Entry}
 
 unfoldable pub is_code : List ℕ → Bool
 is_code t = leb (length t) 4 && is_whole t
@@ -26,20 +26,12 @@ items_of (c ∷ v ∷ t) = cond (is_code c) (pair (value_of c) v) odd ∷ items_
 unfoldable pub code_of : List ℕ → Reply ℕ
 code_of t = check (is_code t) bad_text (given (value_of t))
 
--- the items from place i on
-unfoldable pub items_at : List ℕ → ℕ → List Item
-items_at b i = items_of (lines_of (drop i b))
+-- the items of a text
+unfoldable pub items_in : List ℕ → List Item
+items_in b = items_of (lines_of b)
 
--- what stands at place i: the value's text is bytes s to e, and the items after it begin at n
-unfoldable pub ItemAt : List ℕ → ℕ → ItemAnswer → Type 0
-ItemAt b i item-case.End = items_at b i ≡ []
-ItemAt b i item-case.Odd = (t : List Item) × (items_at b i ≡ odd ∷ t)
-ItemAt b i (item-case.Lone c) = items_at b i ≡ lone c ∷ []
-ItemAt b i (item-case.Pair c s e n) = (s ≤ e) × (e ≤ length b) × (i + 2 ≤ n) × (n ≤ length b) × (items_at b i ≡ pair c (part b s e) ∷ items_at b n)
-
--- a code c, and then place i
-unfoldable pub Valued : List ℕ → ℕ → ℕ → ItemAnswer → Type 0
-Valued b c i item-case.End = ⊥
-Valued b c i item-case.Odd = ⊥
-Valued b c i (item-case.Lone d) = (d ≡ c) × (lines_of (drop i b) ≡ [])
-Valued b c i (item-case.Pair d s e n) = (d ≡ c) × (s ≤ e) × (e ≤ length b) × (i + 1 ≤ n) × (n ≤ length b) × (lines_of (drop i b) ≡ part b s e ∷ lines_of (drop n b))
+-- what a text begins with: no item, a line that is no code, a code with no value line, or a code, its value and then the text's rest
+unfoldable pub BeginsWith : List ℕ → Result (Option Entry) Refusal → Type 0
+BeginsWith b (Err e) = (number_of e ≡ bad_text) × (t : List Item) × (items_in b ≡ odd ∷ t)
+BeginsWith b (Ok None) = items_in b ≡ []
+BeginsWith b (Ok (Some e)) = MatchOption e.value (items_in b ≡ lone e.code ∷ []) (λ v. (items_in b ≡ pair e.code v.now ∷ items_in e.rest.now) × (length e.rest.now + 2 ≤ length b))

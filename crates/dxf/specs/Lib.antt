@@ -2,5 +2,4 @@ pub mod Line
 pub mod Item
 pub mod Entity
 pub mod State
-pub mod Turn
 pub mod Outline

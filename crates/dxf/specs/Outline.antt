@@ -1,7 +1,8 @@
 -- What a call answers, and what the lent buffer holds afterwards.
-use Rattle.std.specs.Prelude.{ℕ, Bool, cond, ◌≡◌, List, ◌++◌, length, drop, leb, Float}
+use Rattle.std.specs.Prelude.{ℕ, Bool, cond, ◌≡◌, List, ◌++◌, length, drop, leb, Float, Result}
 use Rattle.real.specs.Refusal.{bad_number, bad_outline, lacks_room}
 use Rattle.real.specs.Reply.{Reply, refused, given, check, and_then, reply}
+use Rattle.real.specs.declared.refusal.Refusal.{Refusal}
 use Rattle.plane.specs.Grade.{double}
 use Rattle.plane.specs.Range.{most_vertices}
 use Rattle.view.specs.Outline.{count_of, numbers_ok}
@@ -41,5 +42,5 @@ outline_buffer b before = handed_over (outline_of b) before
 
 -- ---- the word of the inner contracts
 
-abbrev pub Answers : Reply Drawn → DxfAnswer → List Float → List Float → Type 0
+abbrev pub Answers : Reply Drawn → Result DxfOutline Refusal → List Float → List Float → Type 0
 Answers d r before after = (reply r ≡ and_then d (room_for (length before))) × (after ≡ handed_over d before)

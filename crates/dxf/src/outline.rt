@@ -1,5 +1,5 @@
 // An outline read from the text of a DXF file.
-ghost use Rattle.std.specs.Prelude.{◌≡◌, ◌++◌, ◌≤◌, ◌*◌, length, take, drop};
+ghost use Rattle.std.specs.Prelude.{◌≡◌, ◌≤◌, ◌*◌, length};
 ghost use Rattle.real.specs.Reply.{reply};
 ghost use Rattle.plane.specs.Range.{most_vertices};
 ghost use Rattle.dxf.specs.Entity as entity;
@@ -19,18 +19,6 @@ pub struct DxfOutline {
     pub closed: bool,
 }
 
-// Copies the numbers to the buffer's start.
-fn copy(numbers: &[f64], out: &mut [f64])
-    requires { length numbers.now ≤ length out.old }
-    ensures { out.new ≡ numbers.now ++ drop (length numbers.now) out.old }
-{
-    let mut k = 0;
-    while k < numbers.len() {
-        out[k] = numbers[k];
-        k += 1;
-    }
-}
-
 // Judges what has been read, past the vertex limit, and hands it over.
 fn hand_over(numbers: &[f64], closed: bool, out: &mut [f64]) -> Result<DxfOutline, Refusal>
     requires { length numbers.now ≤ 3 * most_vertices }
@@ -42,7 +30,7 @@ fn hand_over(numbers: &[f64], closed: bool, out: &mut [f64]) -> Result<DxfOutlin
     if numbers.len() > out.len() {
         return Err(Refusal::NoRoom);
     }
-    copy(numbers, out);
+    out[..numbers.len()].copy_from_slice(numbers);
     Ok(DxfOutline {
         vertices: numbers.len() / 3,
         closed,
@@ -50,22 +38,13 @@ fn hand_over(numbers: &[f64], closed: bool, out: &mut [f64]) -> Result<DxfOutlin
 }
 
 // The same, of what has been read into a buffer for the largest outline.
-fn finish(s: State, a: &[f64], out: &mut [f64]) -> Result<DxfOutline, Refusal>
-    requires { length a.now ≡ 3 * most_vertices }
-    ensures { (m : entity.Seen) → Holds s a.now m → spec.Answers (spec.judged m.numbers m.closed) result out.old out.new }
+fn finish(s: State, read: &[f64; OUTLINE_NUMBERS], out: &mut [f64]) -> Result<DxfOutline, Refusal>
+    ensures { (m : entity.Seen) → Holds s read.now m → spec.Answers (spec.judged m.numbers m.closed) result out.old out.new }
 {
-    let n = s.vertices;
-    if n > MOST_VERTICES {
+    if s.vertices > MOST_VERTICES {
         return Err(Refusal::BadOutline);
     }
-    let e = 3 * n;
-    hand_over(&a[..e], s.closed, out)
-}
-
-fn finish_read(s: State, a: &[f64; OUTLINE_NUMBERS], out: &mut [f64]) -> Result<DxfOutline, Refusal>
-    ensures { (m : entity.Seen) → Holds s a.now m → spec.Answers (spec.judged m.numbers m.closed) result out.old out.new }
-{
-    finish(s, a, out)
+    hand_over(&read[..3 * s.vertices], s.closed, out)
 }
 
 // Reads the first LWPOLYLINE of a text into the buffer's start. 13, 3, 1, 8.
@@ -73,8 +52,6 @@ pub fn dxf_outline(text: &[u8], out: &mut [f64]) -> Result<DxfOutline, Refusal>
     ensures { (reply result ≡ spec.outline_to text.now (length out.old)) × (out.new ≡ spec.outline_buffer text.now out.old) }
 {
     let mut numbers = [0.0; OUTLINE_NUMBERS];
-    match read(text, &mut numbers) {
-        Ok(s) => finish_read(s, &numbers, out),
-        Err(k) => Err(k),
-    }
+    let state = read(text, &mut numbers)?;
+    finish(state, &numbers, out)
 }

@@ -1,7 +1,9 @@
 // What has been read of an entity, and what each code does to it.
-ghost use Rattle.std.specs.Prelude.{◌≡◌, List, ◌++◌, ◌∷◌, [], ◌+◌, ◌-◌, ◌*◌, ◌≤◌, ◌<◌, length, take, set, Float};
+ghost use Rattle.std.specs.Prelude.{◌≡◌, List, ◌++◌, ◌∷◌, [], ◌+◌, ◌-◌, ◌*◌, ◌≤◌, ◌<◌, ◌&&◌, length, take, set, Float};
 ghost use Rattle.plane.specs.Grade.{double};
 ghost use Rattle.plane.specs.Range.{most_vertices};
+ghost use Rattle.view.specs.Outline.{count_of};
+ghost use Rattle.numeral.specs.Digits.{cap};
 ghost use Rattle.dxf.specs.Entity as entity;
 ghost use Rattle.dxf.specs.State as spec;
 
@@ -12,74 +14,21 @@ use real::Refusal;
 // The numbers of the largest outline.
 pub const OUTLINE_NUMBERS: usize = 3 * MOST_VERTICES;
 
-// The last 90, or a number that is no entity's count; whether the last 70 is odd; whether a 10 waits for its 20, and its x;
-// how many vertices there are.
-#[derive(Clone, Copy)]
+// The last 90; whether the last 70 is odd; the x of a 10 that waits for its 20; how many vertices there are.
+#[derive(Clone, Copy, Default)]
 pub struct State {
-    pub count: u64,
+    pub count: Option<u64>,
     pub closed: bool,
-    pub waits: bool,
-    pub x: f64,
+    pub waits: Option<f64>,
     pub vertices: usize,
 }
 
-fn on_count(s: State, text: &[u8]) -> Result<State, Refusal>
-    ensures { (a : List Float) (m : entity.Seen) → spec.Holds s a m → spec.Steps s (entity.count_step m text.now) result a }
-{
-    match whole(text) {
-        Ok(n) => {
-            let mut t = s;
-            t.count = n;
-            Ok(t)
-        }
-        Err(k) => Err(k),
-    }
-}
-
-fn on_closed(s: State, text: &[u8]) -> Result<State, Refusal>
-    ensures { (a : List Float) (m : entity.Seen) → spec.Holds s a m → spec.Steps s (entity.closed_step m text.now) result a }
-{
-    match whole(text) {
-        Ok(n) => {
-            let mut t = s;
-            t.closed = n % 2 == 1;
-            Ok(t)
-        }
-        Err(k) => Err(k),
-    }
-}
-
-fn on_x(s: State, text: &[u8]) -> Result<State, Refusal>
-    ensures { (a : List Float) (m : entity.Seen) → spec.Holds s a m → spec.Steps s (entity.x_step m text.now) result a }
-{
-    match number(text) {
-        Ok(x) => {
-            let mut t = s;
-            t.waits = true;
-            t.x = x;
-            Ok(t)
-        }
-        Err(k) => Err(k),
-    }
-}
-
-// Writes vertex n, with no bulge yet.
-fn put_three(out: &mut [f64], n: usize, x: f64, y: f64)
-    requires { (n < most_vertices) × (length out.old ≡ 3 * most_vertices) }
-    ensures { take (3 * n + 3) out.new ≡ take (3 * n) out.old ++ (x ∷ y ∷ double.zero ∷ []) }
-{
-    let at = 3 * n;
-    out[at] = x;
-    out[at + 1] = y;
-    out[at + 2] = 0.0;
-}
-
-// The same, where the buffer has room for it: past the vertex limit vertices are only counted.
+// Writes vertex n, with no bulge yet, where the buffer has room for it: past the vertex limit vertices are only counted.
 fn put_vertex(out: &mut [f64; OUTLINE_NUMBERS], n: usize, x: f64, y: f64)
     ensures { n < most_vertices → take (3 * n + 3) out.new ≡ take (3 * n) out.old ++ (x ∷ y ∷ double.zero ∷ []) }
 {
     if n < MOST_VERTICES {
-        put_three(out, n, x, y);
+        out[3 * n..3 * n + 3].copy_from_slice(&[x, y, 0.0]);
     }
 }
 
@@ -89,70 +38,83 @@ fn put_bulge(out: &mut [f64; OUTLINE_NUMBERS], n: usize, z: f64)
     ensures { n ≤ most_vertices → take (3 * n) out.new ≡ set (take (3 * n) out.old) (3 * n - 1) z }
 {
     if n <= MOST_VERTICES {
-        let at = 3 * n - 1;
-        out[at] = z;
+        out[3 * n - 1] = z;
     }
 }
 
-fn on_y(s: State, text: &[u8], out: &mut [f64; OUTLINE_NUMBERS]) -> Result<State, Refusal>
-    requires { s.vertices < spec.uncounted }
-    ensures { (m : entity.Seen) → spec.Holds s out.old m → spec.Steps s (entity.y_step m s.x text.now) result out.new }
-{
-    let n = s.vertices;
-    match number(text) {
-        Ok(y) => {
-            put_vertex(out, n, s.x, y);
-            let mut t = s;
-            t.waits = false;
-            t.vertices = n + 1;
-            Ok(t)
-        }
-        Err(k) => Err(k),
+impl State {
+    fn on_count(self, value: &[u8]) -> Result<State, Refusal>
+        ensures { (a : List Float) (m : entity.Seen) → spec.Holds self a m → spec.Steps self (entity.count_step m value.now) result a }
+    {
+        let count = Some(whole(value)?);
+        Ok(State { count, ..self })
     }
-}
 
-fn on_bulge(s: State, text: &[u8], out: &mut [f64; OUTLINE_NUMBERS]) -> Result<State, Refusal>
-    ensures { (m : entity.Seen) → spec.Holds s out.old m → spec.Steps s (entity.bulge_step m text.now) result out.new }
-{
-    let n = s.vertices;
-    if n < 1 {
-        return Err(Refusal::BadText);
+    fn on_closed(self, value: &[u8]) -> Result<State, Refusal>
+        ensures { (a : List Float) (m : entity.Seen) → spec.Holds self a m → spec.Steps self (entity.closed_step m value.now) result a }
+    {
+        let closed = whole(value)? % 2 == 1;
+        Ok(State { closed, ..self })
     }
-    match number(text) {
-        Ok(z) => {
-            put_bulge(out, n, z);
-            Ok(s)
-        }
-        Err(k) => Err(k),
-    }
-}
 
-// A code with its value.
-pub(crate) fn step(s: State, code: u64, text: &[u8], out: &mut [f64; OUTLINE_NUMBERS]) -> Result<State, Refusal>
-    requires { s.vertices < spec.uncounted }
-    ensures { (m : entity.Seen) → spec.Holds s out.old m → spec.Steps s (entity.step_of m code text.now) result out.new }
-{
-    let waits = s.waits;
-    if waits {
-        if code == 20 {
-            return on_y(s, text, out);
+    fn on_x(self, value: &[u8]) -> Result<State, Refusal>
+        ensures { (a : List Float) (m : entity.Seen) → spec.Holds self a m → spec.Steps self (entity.x_step m value.now) result a }
+    {
+        let waits = Some(number(value)?);
+        Ok(State { waits, ..self })
+    }
+
+    // The 20 that the 10 with x waits for.
+    fn on_y(self, x: f64, value: &[u8], out: &mut [f64; OUTLINE_NUMBERS]) -> Result<State, Refusal>
+        requires { self.vertices < cap }
+        ensures { (m : entity.Seen) → spec.Holds self out.old m → spec.Steps self (entity.y_step m x value.now) result out.new }
+    {
+        let y = number(value)?;
+        put_vertex(out, self.vertices, x, y);
+        Ok(State {
+            waits: None,
+            vertices: self.vertices + 1,
+            ..self
+        })
+    }
+
+    fn on_bulge(self, value: &[u8], out: &mut [f64; OUTLINE_NUMBERS]) -> Result<State, Refusal>
+        ensures { (m : entity.Seen) → spec.Holds self out.old m → spec.Steps self (entity.bulge_step m value.now) result out.new }
+    {
+        if self.vertices < 1 {
+            return Err(Refusal::BadText);
         }
-        return Err(Refusal::BadText);
+        put_bulge(out, self.vertices, number(value)?);
+        Ok(self)
     }
-    if code == 90 {
-        return on_count(s, text);
+
+    // A code with its value.
+    pub(crate) fn step(
+        self,
+        code: u64,
+        value: &[u8],
+        out: &mut [f64; OUTLINE_NUMBERS],
+    ) -> Result<State, Refusal>
+        requires { self.vertices < cap }
+        ensures { (m : entity.Seen) → spec.Holds self out.old m → spec.Steps self (entity.step_of m code value.now) result out.new }
+    {
+        match (self.waits, code) {
+            (Some(x), 20) => self.on_y(x, value, out),
+            (Some(_), _) => Err(Refusal::BadText),
+            (None, 90) => self.on_count(value),
+            (None, 70) => self.on_closed(value),
+            (None, 10) => self.on_x(value),
+            (None, 20) => Err(Refusal::BadText),
+            (None, 42) => self.on_bulge(value, out),
+            (None, _) => Ok(self),
+        }
     }
-    if code == 70 {
-        return on_closed(s, text);
+
+    // Whether an entity may end so: no 10 waits, and the count is there and right.
+    pub(crate) fn may_end(self) -> bool
+        requires { self.vertices < cap }
+        ensures { (a : List Float) (m : entity.Seen) → spec.Holds self a m → result ≡ (entity.settled m.waits && entity.counts m.count (count_of m.numbers)) }
+    {
+        self.waits.is_none() && self.count == Some(self.vertices as u64)
     }
-    if code == 10 {
-        return on_x(s, text);
-    }
-    if code == 20 {
-        return Err(Refusal::BadText);
-    }
-    if code == 42 {
-        return on_bulge(s, text, out);
-    }
-    Ok(s)
 }

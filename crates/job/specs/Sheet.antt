@@ -1,7 +1,7 @@
 -- Which bytes are a sheet, and what opening one gives.
 use Rattle.std.specs.Prelude.{ℕ, ◌+◌, ◌*◌, Bool, List, ◌++◌, take, drop, Float}
 use Rattle.real.specs.Refusal.{bad_number, bad_sheet, bad_record}
-use Rattle.real.specs.Reply.{Reply, refused, given, check}
+use Rattle.real.specs.Reply.{Reply, given, check}
 use Rattle.plane.specs.Grade.{double}
 use Rattle.plane.specs.Range.{most_vertices, vertex_ok}
 use Rattle.lists.specs.Plain.{tab}

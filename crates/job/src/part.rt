@@ -108,13 +108,9 @@ fn put_view(
     requires { (k < 10000) × (length list.old ≡ views.list_numbers_of) }
     ensures { (views.Part out.old (views.view_text closed outline.now k d) out.new result) × (list.new ≡ views.view_buffer closed outline.now d list.old) }
 {
-    let answer = d.validate_for_source(outline, LINE_LIMIT);
-    match answer {
-        Err(number) => put_refused_view(out, k, number as usize),
-        Ok(judged) => {
-            let verdict = judged.verdict;
-            put_marked(outline, d, k, verdict, closed, list, out)
-        }
+    match d.validate_for_source(outline, LINE_LIMIT) {
+        Err(refusal) => put_refused_view(out, k, u8::from(refusal) as usize),
+        Ok(judged) => put_marked(outline, d, k, judged.verdict, closed, list, out),
     }
 }
 

@@ -1,7 +1,7 @@
 -- A number's text by its parts, and what its number is: the nearest value (`number_is`), and no other (`only_number`).
 use mathlib.Core.Path.{◌≡◌, refl, sym, ap, ap₂, ◌∙◌, subst}
 use mathlib.Core.List.{List, [], ◌∷◌, ◌++◌}
-use mathlib.Core.Bool.{Bool, true, false, cond, ◌&&◌, true≢false}
+use mathlib.Core.Bool.{Bool, true, false, ◌&&◌, true≢false}
 use Prim.Native.Nat.{ℕ, suc, ◌+◌, ◌^◌, ◌≤◌, ◌<◌}
 use native.Mathlib.Nat.{le_of_lt, lt_irrefl, lt_of_lt_of_le, lt_of_le_of_lt, pow-le-pow_right}
 use native.Mathlib.Omega.{arith}
@@ -9,8 +9,8 @@ use lib.ListN.{length, take, drop, get_or, drop_of_length-le, length-append}
 use lib.Seq.{take_all}
 use lib.Dec.{T, leb, lit≤, lit<}
 use lib.Ieee.{Float, binary64, round, fits}
-use borrow.Author.Tests.{ltb-false, ne_eqb, lt-leb, le-leb, leb-true}
-use Rattle.std.specs.Prelude.{Option, Some, None, position, eqb, nat_lt}
+use borrow.Author.Tests.{ne_eqb, lt-leb, le-leb, leb-true}
+use Rattle.std.specs.Prelude.{Option, Some, None, position, eqb}
 use Rattle.std.specs.List.{position_or_len}
 use Rattle.real.specs.Refusal.{bad_text}
 use Rattle.real.specs.Reply.{Reply, refused, given, check}
@@ -18,6 +18,7 @@ use Rattle.real.proofs.Replies.{same_given, check_passed, check_failed, and_both
 use Rattle.numeral.specs.Digits.{all_digits, value_from, value_of, cap, kept, digits_of}
 use Rattle.numeral.specs.Decimal.{is_minus, unsigned, before_point, after_point, front, places, few_digits, is_number, numerator, denominator, number_of, IsNumber, decimal_of, unsigned_of}
 use Rattle.numeral.proofs.Round.{round_closest, only_closest}
+use Rattle.numeral.proofs.Text.{first_at, nowhere}
 use Rattle.numeral.proofs.Values.{digits_append, value_append, value_under, kept_under}
 
 -- ---- the point: the first byte that is one
@@ -41,20 +42,12 @@ by_point (b ∷ t) = go (is_point b) refl (by_point t)
     go false e r = (simp (e, one_more, r.0), simp e (ap (λ (n : ℕ). drop n (b ∷ t)) (past_one (position_or_len is_point t)) ∙ r.1))
 
 pub parted_at : (t : List ℕ) (p : ℕ) → Some p ≡ position is_point t → (take p t ≡ before_point t) × (drop (p + 1) t ≡ after_point t)
-parted_at t p e = go (nat_lt (position_or_len is_point t) (length t)) e
-  where
-    go : (h : Bool) → Some p ≡ cond h (Some (position_or_len is_point t)) None → (take p t ≡ before_point t) × (drop (p + 1) t ≡ after_point t)
-    go true e = let q : position_or_len is_point t ≡ p = cc in subst (λ (n : ℕ). (take n t ≡ before_point t) × (drop (n + 1) t ≡ after_point t)) q (by_point t)
-    go false e = absurd (cc)
+parted_at t p e = subst (λ (n : ℕ). (take n t ≡ before_point t) × (drop (n + 1) t ≡ after_point t)) (first_at is_point t p e).0 (by_point t)
 
 pub unparted : (t : List ℕ) → ◌≡◌ {A = Option ℕ} None (position is_point t) → (t ≡ before_point t) × ([] ≡ after_point t)
-unparted t e = go (nat_lt (position_or_len is_point t) (length t)) refl e
-  where
-    go : (h : Bool) → nat_lt (position_or_len is_point t) (length t) ≡ h → ◌≡◌ {A = Option ℕ} None (cond h (Some (position_or_len is_point t)) None) → (t ≡ before_point t) × ([] ≡ after_point t)
-    go true d e = absurd (cc)
-    go false d e =
-        let l = ltb-false (position_or_len is_point t) (length t) d in
-        (sym (take_all (position_or_len is_point t) t l) ∙ (by_point t).0, sym (drop_of_length-le t {i = position_or_len is_point t + 1} (omega arith)) ∙ (by_point t).1)
+unparted t e =
+    let l = nowhere is_point t e in
+    (sym (take_all (position_or_len is_point t) t l) ∙ (by_point t).0, sym (drop_of_length-le t {i = position_or_len is_point t + 1} (omega arith)) ∙ (by_point t).1)
 
 -- ---- the digits w and r before and after the point, 15 at most
 

@@ -1,42 +1,23 @@
 // A sheet's first 16 bytes.
 ghost use Rattle.std.specs.Prelude.{◌≡◌, ◌≤◌};
 ghost use Rattle.plane.specs.Range.{most_vertices};
-ghost use Rattle.text.specs.Wrote.{Put};
 ghost use Rattle.outline_sheet.specs.Sheet as spec;
 
 use job::{HEADER_BYTES, VERTEX_BYTES};
-use text::put_text;
 
-// Bit 0 for a closed outline.
-fn flags(closed: bool) -> usize
-    ensures { result ≡ spec.flags_of closed }
-{
-    if closed { 1 } else { 0 }
-}
+const VERSION: u16 = 1;
 
-pub(crate) fn put_header(out: &mut [u8], vertices: usize, closed: bool) -> usize
+// The flags have bit 0 for a closed outline. There are no views, and they begin behind the vertices.
+pub(crate) fn header(vertices: usize, closed: bool) -> [u8; HEADER_BYTES]
     requires { vertices ≤ most_vertices }
-    ensures { Put out.old 0 (spec.header_bytes vertices closed) out.new result }
+    ensures { result ≡ spec.header_bytes vertices closed }
 {
-    let f = flags(closed);
-    let records = HEADER_BYTES + VERTEX_BYTES * vertices;
-    let bytes = [
-        1,
-        0,
-        (f % 256) as u8,
-        (f / 256 % 256) as u8,
-        (vertices % 256) as u8,
-        (vertices / 256 % 256) as u8,
-        0,
-        0,
-        HEADER_BYTES as u8,
-        0,
-        0,
-        0,
-        (records % 256) as u8,
-        (records / 256 % 256) as u8,
-        (records / 65536 % 256) as u8,
-        (records / 16777216 % 256) as u8,
-    ];
-    put_text(out, 0, &bytes)
+    let views_at = HEADER_BYTES + VERTEX_BYTES * vertices;
+    let mut bytes = [0; HEADER_BYTES];
+    bytes[..2].copy_from_slice(&VERSION.to_le_bytes());
+    bytes[2..4].copy_from_slice(&u16::from(closed).to_le_bytes());
+    bytes[4..6].copy_from_slice(&(vertices as u16).to_le_bytes());
+    bytes[8..12].copy_from_slice(&(HEADER_BYTES as u32).to_le_bytes());
+    bytes[12..].copy_from_slice(&(views_at as u32).to_le_bytes());
+    bytes
 }

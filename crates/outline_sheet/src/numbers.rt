@@ -8,10 +8,8 @@ pub(crate) fn put_numbers(out: &mut [u8], at: usize, numbers: &[f64]) -> usize
     ensures { Piece out.old at (spec.number_bytes numbers.now) out.new result }
 {
     let mut e = at;
-    let mut k = 0;
-    while k < numbers.len() {
-        e = put_number(out, e, numbers[k]);
-        k += 1;
+    for x in numbers {
+        e = put_number(out, e, *x);
     }
     e
 }

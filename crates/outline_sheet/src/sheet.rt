@@ -5,11 +5,12 @@ ghost use Rattle.plane.specs.Range.{most_vertices};
 ghost use Rattle.text.specs.Wrote.{Piece};
 ghost use Rattle.outline_sheet.specs.Sheet as spec;
 
-use crate::header::put_header;
+use crate::header::header;
 use crate::numbers::put_numbers;
 use job::{HEADER_BYTES, VERTEX_BYTES};
 use plane::{MOST_VERTICES, outline_is_whole};
 use real::Refusal;
+use text::put_text;
 use view::vertices_in_range;
 
 // The bytes of the longest.
@@ -19,7 +20,7 @@ fn put_sheet(out: &mut [u8], outline: &[f64], closed: bool) -> usize
     requires { length outline.now / 3 ≤ most_vertices }
     ensures { Piece out.old 0 (spec.sheet_bytes outline.now closed) out.new result }
 {
-    let e = put_header(out, outline.len() / 3, closed);
+    let e = put_text(out, 0, &header(outline.len() / 3, closed));
     put_numbers(out, e, outline)
 }
 

@@ -1,45 +1,18 @@
-// Reading, in which an error is no end of the input.
-ghost use Rattle.std.specs.Prelude.{◌<◌, length};
+// Reading a sheet.
+ghost use Rattle.std.specs.Prelude.{◌<◌, ◌≤◌, length, IfOk};
+ghost use Rattle.std.specs.Io.KnownBytes.{Consumes, IsAtEnd};
 ghost use Rattle.job.specs.Sheet.{sheet_bytes};
-ghost use Rattle.sheet.specs.Within.{Within};
 
+use console::read_input;
+use std::io;
 use std::io::Read;
 
-// How many bytes were read, from the buffer's start.
-#[derive(Clone, Copy)]
-pub(crate) enum Input {
-    Read(usize),
-    Failed,
-}
-
-// One read; at the end of the input, of no byte.
-fn read_some<R: Read>(reader: &mut R, buf: &mut [u8]) -> Input
-    ensures { Within result (length buf.old) }
-{
-    match reader.read(buf) {
-        Ok(n) => Input::Read(n),
-        Err(_) => Input::Failed,
-    }
-}
-
-// Reads until the buffer is full or the input ends. The buffer has room for the longest sheet and a byte more, so that a longer
-// input is seen to be one.
-pub(crate) fn read_input<R: Read>(reader: &mut R, buf: &mut [u8]) -> Input
+// Into room for the longest sheet and a byte more, so that a longer one is seen to be one.
+pub(crate) fn read_sheet<'a, R: Read>(reader: &mut R, buf: &'a mut [u8]) -> io::Result<&'a [u8]>
     requires { sheet_bytes < length buf.old }
-    ensures { Within result (length buf.new) }
+    ensures within { IfOk result (λ sheet. length sheet.now ≤ length buf.old) }
+    ensures bytes { IfOk result (λ sheet. Consumes (R.remaining reader.old) (R.remaining reader.new) sheet.now) }
+    ensures all { IfOk result (λ sheet. length sheet.now < length buf.old → IsAtEnd (R.remaining reader.new)) }
 {
-    let mut done = 0;
-    while done < buf.len() {
-        let step = read_some(reader, &mut buf[done..]);
-        match step {
-            Input::Failed => return Input::Failed,
-            Input::Read(n) => {
-                if n == 0 {
-                    return Input::Read(done);
-                }
-                done += n;
-            }
-        }
-    }
-    Input::Read(done)
+    read_input(reader, buf)
 }

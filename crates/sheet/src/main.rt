@@ -5,13 +5,10 @@
 mod input;
 mod output;
 
-use input::{Input, read_input};
+use console::say;
+use input::read_sheet;
 use job::SHEET_BYTES;
 use output::write_sheet;
-
-fn say(rt: &impl Eprint, words: &str) {
-    let _ = rt.eprint(words);
-}
 
 fn answer(rt: &HostRuntime, bytes: &[u8]) {
     if !write_sheet(&mut rt.stdout(), bytes) {
@@ -21,9 +18,8 @@ fn answer(rt: &HostRuntime, bytes: &[u8]) {
 
 fn main(rt: HostRuntime) {
     let mut buffer = [0u8; SHEET_BYTES + 1];
-    let input = read_input(&mut rt.stdin(), &mut buffer);
-    match input {
-        Input::Failed => say(&rt, "sheet: the input could not be read\n"),
-        Input::Read(n) => answer(&rt, &buffer[..n]),
+    match read_sheet(&mut rt.stdin(), &mut buffer) {
+        Err(_) => say(&rt, "sheet: the input could not be read\n"),
+        Ok(sheet) => answer(&rt, sheet),
     }
 }

@@ -86,9 +86,8 @@ fn write_refused<W: Write>(
 pub(crate) fn write_sheet<W: Write>(out: &mut W, bytes: &[u8]) -> bool {
     let mut text = [0u8; PART_BYTES];
     let mut outline = [0.0f64; OUTLINE_NUMBERS];
-    let answer = job::open_sheet(bytes, &mut outline);
-    match answer {
-        Err(number) => write_refused(out, bytes, number, &mut text),
+    match job::open_sheet(bytes, &mut outline) {
+        Err(refusal) => write_refused(out, bytes, u8::from(refusal), &mut text),
         Ok(opened) => {
             let numbers = opened.numbers;
             write_parts(out, bytes, &outline[..numbers], opened.parts, &mut text)

@@ -1,42 +1,56 @@
--- After some turns the items from i on, read on from what is seen, give the whole.
-use mathlib.Core.Path.{refl}
+-- The items left, one after the other.
+use mathlib.Core.Path.{sym, ap, ◌∙◌}
 use native.Mathlib.Omega.{arith}
-use Rattle.dxf.proofs.Turns.{going_start, body_done, body_early, body_bad, body_more}
+use Rattle.real.specs.Reply.{refused}
+use Rattle.dxf.proofs.States.{read_handed}
+use Rattle.dxf.proofs.Turns.{missing, going_start, going_on, step_bad, body_odd, body_none, body_close, body_lone, body_pair, pair_left, body_done, body_early}
 use Rattle.dxf.proofs.entity.body.Goals as goal
+use Rattle.dxf.proofs.entity.body.Goals.{in-Some+then-entry-eq0, in_default}
 
-pub loop-k-init : goal.loop-k-init
-loop-k-init c = going_start c.args.bytes.now c.args.at _ c.args.out.now c.requires refl
+pub loop-entry-init : goal.loop-entry-init
+loop-entry-init c = going_start _ c.default-state.result _ c.default-state.ensures
 
-pub turn-requires : goal.turn-requires
-turn-requires c = let g = c.loop-k.invariant in (g.within, omega (arith, g.within, g.few))
+pub returns-in_err-entry : goal.returns-in_err-entry
+returns-in_err-entry c =
+    let g = c.loop-entry.invariant in
+    read_handed _ _ _ c.from_residual.ensures (g.is ∙ body_odd g.seen _ _ c.in_err-entry.ensures)
 
-pub returns-then-ends : goal.returns-then-ends
-returns-then-ends c =
-    let l = c.loop-k in
-    let o = c.args in
-    body_done o.bytes.now o.at l.i l.s _ _ l.invariant c.turn.result c.turn.ensures c.ends.result c.ends.ensures (omega (arith, l.invariant.within, l.invariant.few)) c.in-Done.is c.if-ends.true
+pub returns-in_err-value : goal.returns-in_err-value
+returns-in_err-value c =
+    let g = c.loop-entry.invariant in
+    let m = missing c.in-Some.entry.value _ c.in_err-value.ensures.value in
+    read_handed _ _ _ c.from_residual-in_err-value.ensures (g.is ∙ body_lone g.seen _ _ c.in_ok-entry.ensures _ c.in-Some.is c.if-entry-eq0.false m.0 ∙ ap refused (sym m.1))
 
-pub returns-in-Done : goal.returns-in-Done
-returns-in-Done c =
-    let l = c.loop-k in
-    let o = c.args in
-    body_early o.bytes.now o.at l.i l.s _ _ l.invariant c.turn.result c.turn.ensures c.ends.result c.ends.ensures (omega (arith, l.invariant.within, l.invariant.few)) c.in-Done.is c.if-ends.false
+pub returns-in_err-state : goal.returns-in_err-state
+returns-in_err-state c =
+    let g = c.loop-entry.invariant in
+    let e = body_pair g.seen _ _ c.in_ok-entry.ensures _ c.in-Some.is c.if-entry-eq0.false _ c.in_ok-value.ensures.ok_part in
+    read_handed _ _ _ c.from_residual-in_err-state.ensures (step_bad _ _ _ _ g _ _ _ _ e (c.in_err-state.ensures g.seen g.holds))
 
-pub returns-in-Err : goal.returns-in-Err
-returns-in-Err c =
-    let l = c.loop-k in
-    let o = c.args in
-    body_bad o.bytes.now o.at l.i l.s _ _ l.invariant c.turn.result c.turn.ensures c.in-Err.k c.in-Err.is
+pub loop-entry-smaller : goal.loop-entry-smaller
+loop-entry-smaller c =
+    let l = pair_left _ _ c.in_ok-entry.ensures _ c.in-Some.is _ c.in_ok-value.ensures.ok_part in
+    omega (arith, l.1)
 
-pub loop-k-smaller : goal.loop-k-smaller
-loop-k-smaller c =
-    let l = c.loop-k in
-    let o = c.args in
-    let g = body_more o.bytes.now o.at l.i l.s _ _ l.invariant c.turn.result c.turn.ensures c.in-More.t c.in-More.next c.in-More.is in
-    omega (arith, g.1, g.2)
+pub loop-entry-preserved : goal.loop-entry-preserved
+loop-entry-preserved c =
+    let g = c.loop-entry.invariant in
+    let e = body_pair g.seen _ _ c.in_ok-entry.ensures _ c.in-Some.is c.if-entry-eq0.false _ c.in_ok-value.ensures.ok_part in
+    let l = pair_left _ _ c.in_ok-entry.ensures _ c.in-Some.is _ c.in_ok-value.ensures.ok_part in
+    going_on _ _ _ _ g _ _ _ _ e l.1 (c.in_ok-state.ensures g.seen g.holds)
 
-pub loop-k-preserved : goal.loop-k-preserved
-loop-k-preserved c =
-    let l = c.loop-k in
-    let o = c.args in
-    (body_more o.bytes.now o.at l.i l.s _ _ l.invariant c.turn.result c.turn.ensures c.in-More.t c.in-More.next c.in-More.is).0
+pub returns-then-not-may_end : goal.returns-then-not-may_end
+returns-then-not-may_end c =
+    let g = c.loop-entry.invariant in
+    elim c.match-branch-2.branch [
+      | in-Some+then-entry-eq0 w ↦ body_early _ _ _ _ g (body_close g.seen _ _ c.in_ok-entry.ensures _ w.in-Some.is w.if-entry-eq0.true) _ (c.may_end.ensures _ g.seen g.holds) c.if-not-may_end.true
+      | in_default w ↦ body_early _ _ _ _ g (body_none g.seen _ _ c.in_ok-entry.ensures w.in_default.is) _ (c.may_end.ensures _ g.seen g.holds) c.if-not-may_end.true
+    ]
+
+pub returns : goal.returns
+returns c =
+    let g = c.loop-entry.invariant in
+    elim c.match-branch-2.branch [
+      | in-Some+then-entry-eq0 w ↦ body_done _ _ _ _ g (body_close g.seen _ _ c.in_ok-entry.ensures _ w.in-Some.is w.if-entry-eq0.true) _ (c.may_end.ensures _ g.seen g.holds) c.if-not-may_end.false
+      | in_default w ↦ body_done _ _ _ _ g (body_none g.seen _ _ c.in_ok-entry.ensures w.in_default.is) _ (c.may_end.ensures _ g.seen g.holds) c.if-not-may_end.false
+    ]

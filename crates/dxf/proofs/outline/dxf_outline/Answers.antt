@@ -3,14 +3,10 @@ use Rattle.dxf.specs.Outline.{outline_to, outline_buffer}
 use Rattle.dxf.proofs.Outlines.{dxf_bad, dxf_good}
 use Rattle.dxf.proofs.outline.dxf_outline.Goals as goal
 
-pub returns-in-Ok : goal.returns-in-Ok
+pub returns-in_err-state : goal.returns-in_err-state
 unfolding outline_to outline_buffer
-returns-in-Ok c =
-    let o = c.args in
-    dxf_good o.text.now c.read.result _ o.out.now c.read.ensures c.in-Ok.s c.finish_read.result _ c.in-Ok.is c.finish_read.ensures
+returns-in_err-state c = let o = c.args in dxf_bad o.text.now _ o.out.now _ _ c.in_err-state.ensures c.from_residual.ensures
 
-pub returns-in-Err : goal.returns-in-Err
+pub returns : goal.returns
 unfolding outline_to outline_buffer
-returns-in-Err c =
-    let o = c.args in
-    dxf_bad o.text.now c.read.result _ o.out.now c.read.ensures c.in-Err.k c.in-Err.is
+returns c = let o = c.args in dxf_good o.text.now _ o.out.now _ _ _ c.in_ok-state.ensures c.finish.ensures

@@ -12,4 +12,4 @@ returns-then-numbers-out c =
 
 pub returns : goal.returns
 returns c =
-    handed c.args.numbers.now c.args.closed c.requires c.args.out.now _ (passed c.vertices_in_range.ensures c.if-not-vertices_in_range.false) c.if-numbers-out.false c.copy.ensures
+    handed c.args.numbers.now c.args.closed c.requires c.args.out.now _ (passed c.vertices_in_range.ensures c.if-not-vertices_in_range.false) c.if-numbers-out.false (cc)

@@ -1,11 +1,6 @@
--- After k turns the first k numbers stand in the buffer.
-use Prim.Native.Nat.{◌-◌}
-use lib.ListN.{length}
+-- After some turns the numbers passed stand in the buffer.
 use Rattle.outline_sheet.proofs.Written.{Writing}
 use Rattle.outline_sheet.proofs.numbers.put_numbers.Given as goal
 
-abbrev pub invariant-loop-k : goal.invariant-loop-k
-invariant-loop-k l = Writing l.numbers l.initial.out l.at l.k l.e l.out
-
-abbrev pub decreases-loop-k : goal.decreases-loop-k
-decreases-loop-k l = length l.numbers - l.k
+abbrev pub invariant-loop-x : goal.invariant-loop-x
+invariant-loop-x l = Writing l.numbers l.initial.out l.at l.x-index l.e l.out
