@@ -7,26 +7,28 @@ ghost use Rattle.seg.specs.Closest.{seg_closest};
 ghost use Rattle.seg.specs.Distance.{seg_far};
 ghost use Rattle.seg.specs.Bounds.{seg_box};
 ghost use Rattle.seg.specs.Middle.{seg_mid};
-ghost use Rattle.lent.specs.Lent.{Answered};
+ghost use Rattle.lent.specs.Lent.{done, Answered};
 ghost use Rattle.lent.specs.Values as values;
 ghost use Rattle.bisquefern.specs.Calls.{of_segment, point};
 
-use lent::{give_box, give_circle, give_flag, give_point, give_split, segment_from_slice};
+use lent::{give, segment_from_slice};
 use plane::Vector2;
-use seg::{seg_arc_radius_and_center, seg_bounding_box, seg_closest_point, seg_distance_is_greater_than, seg_midpoint, seg_split_at_point, seg_tangent_vector};
+use real::Refusal;
+use seg::{
+    seg_arc_radius_and_center, seg_bounding_box, seg_closest_point, seg_distance_is_greater_than,
+    seg_midpoint, seg_split_at_point, seg_tangent_vector,
+};
 
 // Radius and centre of an arc. 3, 1, 2, 6, 8.
-pub fn bf_seg_arc_radius_and_center(seg: &[f64], line_limit: f64, out: &mut [f64]) -> u8
-    ensures { Answered values.circle_numbers (of_segment seg.now (seg_circle double line_limit)) out.old result out.new }
+pub fn bf_seg_arc_radius_and_center(
+    seg: &[f64],
+    line_limit: f64,
+    out: &mut [f64],
+) -> Result<(), Refusal>
+    ensures { Answered values.circle_numbers (of_segment seg.now (seg_circle double line_limit)) out.old (done result) out.new }
 {
-    let segment = segment_from_slice(seg);
-    match segment {
-        Ok(v1, v2) => give_circle(
-            seg_arc_radius_and_center(v1, v2, line_limit),
-            out,
-        ),
-        Err(n) => n,
-    }
+    let (v1, v2) = segment_from_slice(seg)?;
+    give(seg_arc_radius_and_center(v1, v2, line_limit), out)
 }
 
 // The updated start and the split vertex. 3, 1, 2, 8.
@@ -37,33 +39,31 @@ pub fn bf_seg_split_at_point(
     tolerance: f64,
     line_limit: f64,
     out: &mut [f64],
-) -> u8
-    ensures { Answered values.split_numbers (of_segment seg.now (λ v1 v2. seg_split double line_limit v1 v2 (point x y) tolerance)) out.old result out.new }
+) -> Result<(), Refusal>
+    ensures { Answered values.split_numbers (of_segment seg.now (λ v1 v2. seg_split double line_limit v1 v2 (point x y) tolerance)) out.old (done result) out.new }
 {
-    let segment = segment_from_slice(seg);
-    match segment {
-        Ok(v1, v2) => give_split(
-            seg_split_at_point(v1, v2, Vector2 { x, y }, tolerance, line_limit),
-            out,
-        ),
-        Err(n) => n,
-    }
+    let (v1, v2) = segment_from_slice(seg)?;
+    give(
+        seg_split_at_point(v1, v2, Vector2 { x, y }, tolerance, line_limit),
+        out,
+    )
 }
 
 // 3, 1, 2, 8.
-pub fn bf_seg_tangent_vector(seg: &[f64], x: f64, y: f64, line_limit: f64, out: &mut [f64]) -> u8
-    ensures { Answered values.point_numbers (of_segment seg.now (λ v1 v2. seg_tangent double line_limit v1 v2 (point x y))) out.old result out.new }
+pub fn bf_seg_tangent_vector(
+    seg: &[f64],
+    x: f64,
+    y: f64,
+    line_limit: f64,
+    out: &mut [f64],
+) -> Result<(), Refusal>
+    ensures { Answered values.point_numbers (of_segment seg.now (λ v1 v2. seg_tangent double line_limit v1 v2 (point x y))) out.old (done result) out.new }
 {
-    let segment = segment_from_slice(seg);
-    match segment {
-        Ok(v1, v2) => {
-            give_point(
-                seg_tangent_vector(v1, v2, Vector2 { x, y }, line_limit),
-                out,
-            )
-        }
-        Err(n) => n,
-    }
+    let (v1, v2) = segment_from_slice(seg)?;
+    give(
+        seg_tangent_vector(v1, v2, Vector2 { x, y }, line_limit),
+        out,
+    )
 }
 
 // 3, 1, 2, 8.
@@ -74,17 +74,14 @@ pub fn bf_seg_closest_point(
     tolerance: f64,
     line_limit: f64,
     out: &mut [f64],
-) -> u8
-    ensures { Answered values.point_numbers (of_segment seg.now (λ v1 v2. seg_closest double line_limit v1 v2 (point x y) tolerance)) out.old result out.new }
+) -> Result<(), Refusal>
+    ensures { Answered values.point_numbers (of_segment seg.now (λ v1 v2. seg_closest double line_limit v1 v2 (point x y) tolerance)) out.old (done result) out.new }
 {
-    let segment = segment_from_slice(seg);
-    match segment {
-        Ok(v1, v2) => give_point(
-            seg_closest_point(v1, v2, Vector2 { x, y }, tolerance, line_limit),
-            out,
-        ),
-        Err(n) => n,
-    }
+    let (v1, v2) = segment_from_slice(seg)?;
+    give(
+        seg_closest_point(v1, v2, Vector2 { x, y }, tolerance, line_limit),
+        out,
+    )
 }
 
 // 1 where the point is farther than the distance, else 0. 3, 1, 2, 8.
@@ -96,37 +93,28 @@ pub fn bf_seg_distance_is_greater_than(
     tolerance: f64,
     line_limit: f64,
     out: &mut [u8],
-) -> u8
-    ensures { Answered values.flag_byte (of_segment seg.now (λ v1 v2. seg_far double line_limit v1 v2 (point x y) distance tolerance)) out.old result out.new }
+) -> Result<(), Refusal>
+    ensures { Answered values.flag_byte (of_segment seg.now (λ v1 v2. seg_far double line_limit v1 v2 (point x y) distance tolerance)) out.old (done result) out.new }
 {
-    let segment = segment_from_slice(seg);
-    match segment {
-        Ok(v1, v2) => give_flag(
-            seg_distance_is_greater_than(v1, v2, Vector2 { x, y }, distance, tolerance, line_limit),
-            out,
-        ),
-        Err(n) => n,
-    }
+    let (v1, v2) = segment_from_slice(seg)?;
+    give(
+        seg_distance_is_greater_than(v1, v2, Vector2 { x, y }, distance, tolerance, line_limit),
+        out,
+    )
 }
 
 // Least x and y, greatest x and y. 3, 1, 2, 8.
-pub fn bf_seg_bounding_box(seg: &[f64], line_limit: f64, out: &mut [f64]) -> u8
-    ensures { Answered values.box_numbers (of_segment seg.now (seg_box double line_limit)) out.old result out.new }
+pub fn bf_seg_bounding_box(seg: &[f64], line_limit: f64, out: &mut [f64]) -> Result<(), Refusal>
+    ensures { Answered values.box_numbers (of_segment seg.now (seg_box double line_limit)) out.old (done result) out.new }
 {
-    let segment = segment_from_slice(seg);
-    match segment {
-        Ok(v1, v2) => give_box(seg_bounding_box(v1, v2, line_limit), out),
-        Err(n) => n,
-    }
+    let (v1, v2) = segment_from_slice(seg)?;
+    give(seg_bounding_box(v1, v2, line_limit), out)
 }
 
 // 3, 1, 2, 8.
-pub fn bf_seg_midpoint(seg: &[f64], line_limit: f64, out: &mut [f64]) -> u8
-    ensures { Answered values.point_numbers (of_segment seg.now (seg_mid double line_limit)) out.old result out.new }
+pub fn bf_seg_midpoint(seg: &[f64], line_limit: f64, out: &mut [f64]) -> Result<(), Refusal>
+    ensures { Answered values.point_numbers (of_segment seg.now (seg_mid double line_limit)) out.old (done result) out.new }
 {
-    let segment = segment_from_slice(seg);
-    match segment {
-        Ok(v1, v2) => give_point(seg_midpoint(v1, v2, line_limit), out),
-        Err(n) => n,
-    }
+    let (v1, v2) = segment_from_slice(seg)?;
+    give(seg_midpoint(v1, v2, line_limit), out)
 }

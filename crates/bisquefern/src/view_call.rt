@@ -4,11 +4,11 @@ ghost use Rattle.view.specs.Answers.{get_vertex_of, vertex_count_of, reverse_of,
 ghost use Rattle.view.specs.Validation.{validate_of, validate_counted, mark_answer};
 ghost use Rattle.view.specs.Create.{create_of, new_start_of};
 ghost use Rattle.record.specs.Record.{record_bytes};
-ghost use Rattle.lent.specs.Lent.{itself, one, both, Answered, BothAnswered};
+ghost use Rattle.lent.specs.Lent.{itself, one, both, done, Answered, BothAnswered};
 ghost use Rattle.lent.specs.Values.{vertex_numbers, list_reply, mark_byte, verdict_values};
 ghost use Rattle.bisquefern.specs.Calls.{of_record, of_vertex, is_closed, point};
 
-use lent::{give_count, give_list, give_mark, give_record, give_verdict, give_vertex};
+use lent::{give, give_list, give_verdict};
 use plane::{PlineVertex, Vector2};
 use real::Refusal;
 use record::record_from_bytes;
@@ -26,18 +26,18 @@ pub fn bf_view_create(
     tolerance: f64,
     line_limit: f64,
     out: &mut [u8],
-) -> u8
-    ensures { Answered record_bytes (of_vertex vertex.now (λ v. create_of double line_limit outline.now start (point x y) intersect v traverse tolerance)) out.old result out.new }
+) -> Result<(), Refusal>
+    ensures { Answered record_bytes (of_vertex vertex.now (λ v. create_of double line_limit outline.now start (point x y) intersect v traverse tolerance)) out.old (done result) out.new }
 {
-    if vertex.len() != 3 {
-        return Refusal::BadOutline;
-    }
-    let first = PlineVertex {
-        x: vertex[0],
-        y: vertex[1],
-        bulge: vertex[2],
+    let [first_x, first_y, bulge] = *vertex else {
+        return Err(Refusal::BadOutline);
     };
-    give_record(
+    let first = PlineVertex {
+        x: first_x,
+        y: first_y,
+        bulge,
+    };
+    give(
         PlineViewData::create(
             outline,
             start as usize,
@@ -62,10 +62,10 @@ pub fn bf_view_from_new_start(
     tolerance: f64,
     line_limit: f64,
     out: &mut [u8],
-) -> u8
-    ensures { Answered record_bytes (new_start_of double line_limit outline.now (is_closed closed) (point x y) start tolerance) out.old result out.new }
+) -> Result<(), Refusal>
+    ensures { Answered record_bytes (new_start_of double line_limit outline.now (is_closed closed) (point x y) start tolerance) out.old (done result) out.new }
 {
-    give_record(
+    give(
         PlineViewData::from_new_start(
             outline,
             closed != 0,
@@ -85,18 +85,11 @@ pub fn bf_view_validate(
     line_limit: f64,
     whole: &mut [u64],
     out: &mut [f64],
-) -> u8
-    ensures { BothAnswered verdict_values (of_record bytes.now (validate_counted double line_limit outline.now)) (both whole.old out.old) result (both whole.new out.new) }
+) -> Result<(), Refusal>
+    ensures { BothAnswered verdict_values (of_record bytes.now (validate_counted double line_limit outline.now)) (both whole.old out.old) (done result) (both whole.new out.new) }
 {
-    let decoded = record_from_bytes(bytes);
-    match decoded {
-        Ok(d) => give_verdict(
-            d.validate_for_source(outline, line_limit),
-            whole,
-            out,
-        ),
-        Err(n) => n,
-    }
+    let d = record_from_bytes(bytes)?;
+    give_verdict(d.validate_for_source(outline, line_limit), whole, out)
 }
 
 // 1 for cut, 0 for hold. 11, 12, 3, 1, 2, 4, 8.
@@ -106,67 +99,65 @@ pub fn bf_view_mark(
     bytes: &[u8],
     line_limit: f64,
     out: &mut [u8],
-) -> u8
-    ensures { Answered mark_byte (of_record bytes.now (λ d. mark_answer (is_closed closed) outline.now d (validate_of double line_limit outline.now d))) out.old result out.new }
+) -> Result<(), Refusal>
+    ensures { Answered mark_byte (of_record bytes.now (λ d. mark_answer (is_closed closed) outline.now d (validate_of double line_limit outline.now d))) out.old (done result) out.new }
 {
-    let decoded = record_from_bytes(bytes);
-    match decoded {
-        Ok(d) => give_mark(d.mark(outline, closed != 0, line_limit), out),
-        Err(n) => n,
-    }
+    let d = record_from_bytes(bytes)?;
+    give(d.mark(outline, closed != 0, line_limit), out)
 }
 
 // How many vertices the view has. 11, 12, 3, 1, 5, 4, 8.
-pub fn bf_view_count(outline: &[f64], bytes: &[u8], out: &mut [u64]) -> u8
-    ensures { Answered one (of_record bytes.now (vertex_count_of double outline.now)) out.old result out.new }
+pub fn bf_view_count(outline: &[f64], bytes: &[u8], out: &mut [u64]) -> Result<(), Refusal>
+    ensures { Answered one (of_record bytes.now (vertex_count_of double outline.now)) out.old (done result) out.new }
 {
-    let decoded = record_from_bytes(bytes);
-    match decoded {
-        Ok(d) => give_count(d.vertex_count(outline), out),
-        Err(n) => n,
-    }
+    let d = record_from_bytes(bytes)?;
+    give(d.vertex_count(outline), out)
 }
 
 // The vertex at a position. 11, 12, 3, 5, 4, 1, 8.
-pub fn bf_view_get(outline: &[f64], bytes: &[u8], position: u64, out: &mut [f64]) -> u8
-    ensures { Answered vertex_numbers (of_record bytes.now (λ d. get_vertex_of double outline.now d position)) out.old result out.new }
+pub fn bf_view_get(
+    outline: &[f64],
+    bytes: &[u8],
+    position: u64,
+    out: &mut [f64],
+) -> Result<(), Refusal>
+    ensures { Answered vertex_numbers (of_record bytes.now (λ d. get_vertex_of double outline.now d position)) out.old (done result) out.new }
 {
-    let decoded = record_from_bytes(bytes);
-    match decoded {
-        Ok(d) => give_vertex(d.get_vertex(outline, position as usize), out),
-        Err(n) => n,
-    }
+    let d = record_from_bytes(bytes)?;
+    give(d.get_vertex(outline, position as usize), out)
 }
 
 // All vertices in threes, and how many. 11, 12, 3, 1, 5, 4, 8.
-pub fn bf_view_list(outline: &[f64], bytes: &[u8], out: &mut [f64], count: &mut [u64]) -> u8
-    ensures { BothAnswered itself (of_record bytes.now (list_reply outline.now)) (both count.old out.old) result (both count.new out.new) }
+pub fn bf_view_list(
+    outline: &[f64],
+    bytes: &[u8],
+    out: &mut [f64],
+    count: &mut [u64],
+) -> Result<(), Refusal>
+    ensures { BothAnswered itself (of_record bytes.now (list_reply outline.now)) (both count.old out.old) (done result) (both count.new out.new) }
 {
-    let decoded = record_from_bytes(bytes);
-    match decoded {
-        Ok(d) => give_list(outline, d, out, count),
-        Err(n) => n,
-    }
+    let d = record_from_bytes(bytes)?;
+    give_list(outline, d, out, count)
 }
 
 // The record turned round. 11, 12, 3, 1, 5, 4, 7, 8.
-pub fn bf_view_reverse(outline: &[f64], bytes: &[u8], out: &mut [u8]) -> u8
-    ensures { Answered record_bytes (of_record bytes.now (reverse_of double outline.now)) out.old result out.new }
+pub fn bf_view_reverse(outline: &[f64], bytes: &[u8], out: &mut [u8]) -> Result<(), Refusal>
+    ensures { Answered record_bytes (of_record bytes.now (reverse_of double outline.now)) out.old (done result) out.new }
 {
-    let decoded = record_from_bytes(bytes);
-    match decoded {
-        Ok(d) => give_record(d.reverse(outline), out),
-        Err(n) => n,
-    }
+    let d = record_from_bytes(bytes)?;
+    give(d.reverse(outline), out)
 }
 
 // The record of positions i to j. 11, 12, 3, 1, 5, 4, 7, 9, 8.
-pub fn bf_view_trim(outline: &[f64], bytes: &[u8], i: u64, j: u64, out: &mut [u8]) -> u8
-    ensures { Answered record_bytes (of_record bytes.now (λ d. trim_of double outline.now d i j)) out.old result out.new }
+pub fn bf_view_trim(
+    outline: &[f64],
+    bytes: &[u8],
+    i: u64,
+    j: u64,
+    out: &mut [u8],
+) -> Result<(), Refusal>
+    ensures { Answered record_bytes (of_record bytes.now (λ d. trim_of double outline.now d i j)) out.old (done result) out.new }
 {
-    let decoded = record_from_bytes(bytes);
-    match decoded {
-        Ok(d) => give_record(d.trim(outline, i as usize, j as usize), out),
-        Err(n) => n,
-    }
+    let d = record_from_bytes(bytes)?;
+    give(d.trim(outline, i as usize, j as usize), out)
 }

@@ -11,12 +11,14 @@ ghost use Rattle.lent.specs.Lent.{Answered};
 ghost use Rattle.lent.specs.Values as values;
 ghost use Rattle.bisquefern.specs.Calls.{of_segment, point};
 
+use bisquefern::code;
+
 // Radius and centre of an arc. 3, 1, 2, 6, 8.
 #[unsafe(no_mangle)]
 pub extern "C" fn bf_seg_arc_radius_and_center(seg: &[f64], line_limit: f64, out: &mut [f64]) -> u8
     ensures { Answered values.circle_numbers (of_segment seg.now (seg_circle double line_limit)) out.old result out.new }
 {
-    bisquefern::bf_seg_arc_radius_and_center(seg, line_limit, out)
+    code(bisquefern::bf_seg_arc_radius_and_center(seg, line_limit, out))
 }
 
 // The updated start and the split vertex. 3, 1, 2, 8.
@@ -31,7 +33,7 @@ pub extern "C" fn bf_seg_split_at_point(
 ) -> u8
     ensures { Answered values.split_numbers (of_segment seg.now (λ v1 v2. seg_split double line_limit v1 v2 (point x y) tolerance)) out.old result out.new }
 {
-    bisquefern::bf_seg_split_at_point(seg, x, y, tolerance, line_limit, out)
+    code(bisquefern::bf_seg_split_at_point(seg, x, y, tolerance, line_limit, out))
 }
 
 // 3, 1, 2, 8.
@@ -45,7 +47,7 @@ pub extern "C" fn bf_seg_tangent_vector(
 ) -> u8
     ensures { Answered values.point_numbers (of_segment seg.now (λ v1 v2. seg_tangent double line_limit v1 v2 (point x y))) out.old result out.new }
 {
-    bisquefern::bf_seg_tangent_vector(seg, x, y, line_limit, out)
+    code(bisquefern::bf_seg_tangent_vector(seg, x, y, line_limit, out))
 }
 
 // 3, 1, 2, 8.
@@ -60,7 +62,7 @@ pub extern "C" fn bf_seg_closest_point(
 ) -> u8
     ensures { Answered values.point_numbers (of_segment seg.now (λ v1 v2. seg_closest double line_limit v1 v2 (point x y) tolerance)) out.old result out.new }
 {
-    bisquefern::bf_seg_closest_point(seg, x, y, tolerance, line_limit, out)
+    code(bisquefern::bf_seg_closest_point(seg, x, y, tolerance, line_limit, out))
 }
 
 // 1 where the point is farther than the distance, else 0. 3, 1, 2, 8.
@@ -76,7 +78,9 @@ pub extern "C" fn bf_seg_distance_is_greater_than(
 ) -> u8
     ensures { Answered values.flag_byte (of_segment seg.now (λ v1 v2. seg_far double line_limit v1 v2 (point x y) distance tolerance)) out.old result out.new }
 {
-    bisquefern::bf_seg_distance_is_greater_than(seg, x, y, distance, tolerance, line_limit, out)
+    code(bisquefern::bf_seg_distance_is_greater_than(
+        seg, x, y, distance, tolerance, line_limit, out,
+    ))
 }
 
 // Least x and y, greatest x and y. 3, 1, 2, 8.
@@ -84,7 +88,7 @@ pub extern "C" fn bf_seg_distance_is_greater_than(
 pub extern "C" fn bf_seg_bounding_box(seg: &[f64], line_limit: f64, out: &mut [f64]) -> u8
     ensures { Answered values.box_numbers (of_segment seg.now (seg_box double line_limit)) out.old result out.new }
 {
-    bisquefern::bf_seg_bounding_box(seg, line_limit, out)
+    code(bisquefern::bf_seg_bounding_box(seg, line_limit, out))
 }
 
 // 3, 1, 2, 8.
@@ -92,5 +96,5 @@ pub extern "C" fn bf_seg_bounding_box(seg: &[f64], line_limit: f64, out: &mut [f
 pub extern "C" fn bf_seg_midpoint(seg: &[f64], line_limit: f64, out: &mut [f64]) -> u8
     ensures { Answered values.point_numbers (of_segment seg.now (seg_mid double line_limit)) out.old result out.new }
 {
-    bisquefern::bf_seg_midpoint(seg, line_limit, out)
+    code(bisquefern::bf_seg_midpoint(seg, line_limit, out))
 }

@@ -8,6 +8,8 @@ ghost use Rattle.lent.specs.Lent.{itself, one, both, Answered, BothAnswered};
 ghost use Rattle.lent.specs.Values.{vertex_numbers, list_reply, mark_byte, verdict_values};
 ghost use Rattle.bisquefern.specs.Calls.{of_record, of_vertex, is_closed, point};
 
+use bisquefern::code;
+
 // The record of a view from `vertex` on segment `start`, over `traverse` vertices to (x, y) on segment `intersect`. 3, 1, 2, 5, 4, 5, 8.
 #[unsafe(no_mangle)]
 pub extern "C" fn bf_view_create(
@@ -24,9 +26,9 @@ pub extern "C" fn bf_view_create(
 ) -> u8
     ensures { Answered record_bytes (of_vertex vertex.now (λ v. create_of double line_limit outline.now start (point x y) intersect v traverse tolerance)) out.old result out.new }
 {
-    bisquefern::bf_view_create(
+    code(bisquefern::bf_view_create(
         outline, start, x, y, intersect, vertex, traverse, tolerance, line_limit, out,
-    )
+    ))
 }
 
 // The record of a view round a closed outline, from (x, y) on segment `start`. 3, 1, 2, 10, 4, 8.
@@ -43,7 +45,9 @@ pub extern "C" fn bf_view_from_new_start(
 ) -> u8
     ensures { Answered record_bytes (new_start_of double line_limit outline.now (is_closed closed) (point x y) start tolerance) out.old result out.new }
 {
-    bisquefern::bf_view_from_new_start(outline, closed, x, y, start, tolerance, line_limit, out)
+    code(bisquefern::bf_view_from_new_start(
+        outline, closed, x, y, start, tolerance, line_limit, out,
+    ))
 }
 
 // The verdict with its counts, the square roots that it took, and its numbers. 11, 12, 3, 1, 2, 4, 8.
@@ -57,7 +61,7 @@ pub extern "C" fn bf_view_validate(
 ) -> u8
     ensures { BothAnswered verdict_values (of_record bytes.now (validate_counted double line_limit outline.now)) (both whole.old out.old) result (both whole.new out.new) }
 {
-    bisquefern::bf_view_validate(outline, bytes, line_limit, whole, out)
+    code(bisquefern::bf_view_validate(outline, bytes, line_limit, whole, out))
 }
 
 // 1 for cut, 0 for hold. 11, 12, 3, 1, 2, 4, 8.
@@ -71,7 +75,7 @@ pub extern "C" fn bf_view_mark(
 ) -> u8
     ensures { Answered mark_byte (of_record bytes.now (λ d. mark_answer (is_closed closed) outline.now d (validate_of double line_limit outline.now d))) out.old result out.new }
 {
-    bisquefern::bf_view_mark(outline, closed, bytes, line_limit, out)
+    code(bisquefern::bf_view_mark(outline, closed, bytes, line_limit, out))
 }
 
 // How many vertices the view has. 11, 12, 3, 1, 5, 4, 8.
@@ -79,7 +83,7 @@ pub extern "C" fn bf_view_mark(
 pub extern "C" fn bf_view_count(outline: &[f64], bytes: &[u8], out: &mut [u64]) -> u8
     ensures { Answered one (of_record bytes.now (vertex_count_of double outline.now)) out.old result out.new }
 {
-    bisquefern::bf_view_count(outline, bytes, out)
+    code(bisquefern::bf_view_count(outline, bytes, out))
 }
 
 // The vertex at a position. 11, 12, 3, 5, 4, 1, 8.
@@ -87,7 +91,7 @@ pub extern "C" fn bf_view_count(outline: &[f64], bytes: &[u8], out: &mut [u64]) 
 pub extern "C" fn bf_view_get(outline: &[f64], bytes: &[u8], position: u64, out: &mut [f64]) -> u8
     ensures { Answered vertex_numbers (of_record bytes.now (λ d. get_vertex_of double outline.now d position)) out.old result out.new }
 {
-    bisquefern::bf_view_get(outline, bytes, position, out)
+    code(bisquefern::bf_view_get(outline, bytes, position, out))
 }
 
 // All vertices in threes, and how many. 11, 12, 3, 1, 5, 4, 8.
@@ -100,7 +104,7 @@ pub extern "C" fn bf_view_list(
 ) -> u8
     ensures { BothAnswered itself (of_record bytes.now (list_reply outline.now)) (both count.old out.old) result (both count.new out.new) }
 {
-    bisquefern::bf_view_list(outline, bytes, out, count)
+    code(bisquefern::bf_view_list(outline, bytes, out, count))
 }
 
 // The record turned round. 11, 12, 3, 1, 5, 4, 7, 8.
@@ -108,7 +112,7 @@ pub extern "C" fn bf_view_list(
 pub extern "C" fn bf_view_reverse(outline: &[f64], bytes: &[u8], out: &mut [u8]) -> u8
     ensures { Answered record_bytes (of_record bytes.now (reverse_of double outline.now)) out.old result out.new }
 {
-    bisquefern::bf_view_reverse(outline, bytes, out)
+    code(bisquefern::bf_view_reverse(outline, bytes, out))
 }
 
 // The record of positions i to j. 11, 12, 3, 1, 5, 4, 7, 9, 8.
@@ -116,5 +120,5 @@ pub extern "C" fn bf_view_reverse(outline: &[f64], bytes: &[u8], out: &mut [u8])
 pub extern "C" fn bf_view_trim(outline: &[f64], bytes: &[u8], i: u64, j: u64, out: &mut [u8]) -> u8
     ensures { Answered record_bytes (of_record bytes.now (λ d. trim_of double outline.now d i j)) out.old result out.new }
 {
-    bisquefern::bf_view_trim(outline, bytes, i, j, out)
+    code(bisquefern::bf_view_trim(outline, bytes, i, j, out))
 }

@@ -7,18 +7,36 @@ use Prim.Native.Nat.{ℕ, ◌≤◌, ◌<◌}
 use lib.ListN.{length, drop_of_length-le}
 use lib.Ieee.{Float}
 use borrow.Author.Tests.{le-leb, lt-leb}
-use Rattle.real.specs.Refusal.{lacks_room}
-use Rattle.real.specs.Reply.{Reply, refused, given, check, and_then}
-use Rattle.lent.specs.Lent.{code_of, held_by, Left, lent, in_front, has_room_of, itself, Answered, Both, both, lent_both, BothAnswered}
+use Rattle.std.specs.Prelude.{Result, Ok, Err}
+use Rattle.std.specs.Result.{IsErr, IsErrAnd}
+use Rattle.std.proofs.lemmas.Result.{err_from_is_err_and}
+use Rattle.real.specs.Refusal.{number_of, lacks_room}
+use Rattle.real.specs.Reply.{Reply, refused, given, check, and_then, reply, reply_by}
+use Rattle.real.specs.declared.refusal.Refusal.{Refusal}
+use Rattle.real.specs.declared.refusal.Refusal.TheVariants as refusal
+use Rattle.lent.specs.Lent.{code_of, done, held_by, Left, lent, in_front, has_room_of, itself, Answered, Both, both, lent_both, BothAnswered}
 
 -- refused by the call behind it
 pub refuses : {A C : Type 0} {n : ℕ} {x : Reply A} {store : A → Reply C} {before : C} → refused n ≡ x → Left x store before n before
 unfolding and_then code_of held_by
 refuses {C = C} {n} {x} {store} {before} e = subst (λ r. Left r store before n before) e (record { returned = refl; holds = refl })
 
+-- what `?` hands on is the refusal of the call behind it
+pub hands_on : {X A C : Type 0} (r : Result X Refusal) (e : Refusal) {x : Reply A} {store : A → Reply C} {before : C} → IsErr r × IsErrAnd r (λ (y : Refusal). y ≡ e) → refused (number_of e) ≡ x
+    → Left x store before (done r) before
+hands_on r e h q =
+    let p = err_from_is_err_and r h.1 in
+    rw (p.1, p.2) (refuses q)
+
 -- the reply of the call behind it
 pub replies : {A C : Type 0} {x y : Reply A} {store : A → Reply C} {before after : C} {n : ℕ} → x ≡ y → Left x store before n after → Left y store before n after
 replies {store = store} {before} {after} {n} e l = subst (λ r. Left r store before n after) e l
+
+-- what is stored of a value is stored of what f says of it
+pub by_reading : {A B C : Type 0} (f : A → B) (r : Result A Refusal) {store : B → Reply C} {before after : C} {n : ℕ} → Left (reply r) (λ a. store (f a)) before n after → Left (reply_by f r) store before n after
+unfolding and_then
+by_reading f (Ok a) l = record { returned = l.returned; holds = l.holds }
+by_reading f (Err e) l = record { returned = l.returned; holds = l.holds }
 
 -- past the reading of an argument, and refused by it
 pub past : {A B C : Type 0} {a : A} {x : Reply A} {y : Reply B} (call : A → Reply B) {store : B → Reply C} {before after : C} {n : ℕ} → given a ≡ x → y ≡ call a
@@ -26,9 +44,10 @@ pub past : {A B C : Type 0} {a : A} {x : Reply A} {y : Reply B} (call : A → Re
 unfolding and_then
 past call e f l = replies (f ∙ ap (λ r. and_then r call) e) l
 
-pub stops : {A B C : Type 0} {x : Reply A} (call : A → Reply B) {store : B → Reply C} {before : C} {n : ℕ} → refused n ≡ x → Left (and_then x call) store before n before
+pub stops : {X A B C : Type 0} (r : Result X Refusal) (e : Refusal) {x : Reply A} (call : A → Reply B) {store : B → Reply C} {before : C} → IsErr r × IsErrAnd r (λ (y : Refusal). y ≡ e) → refused (number_of e) ≡ x
+    → Left (and_then x call) store before (done r) before
 unfolding and_then
-stops call e = refuses (ap (λ r. and_then r call) e)
+stops r e call h q = hands_on r e h (ap (λ r. and_then r call) q)
 
 module _ {A B : Type 0} (values : A → List B) {a : A} {before : List B} where
   -- the buffer is short
@@ -62,22 +81,22 @@ stored_as {B = B} values values' {before = before} {after} {n} e w =
 pub told : {A B : Type 0} (f : A → B) (answer case : A) (r : B) → answer ≡ case → r ≡ f case → r ≡ f answer
 told f answer case r e h = h ∙ ap f (sym e)
 
--- an answer's values are written, or its refusal is handed on
-of_values : {A B : Type 0} (values : A → List B) {written before after : List B} {n : ℕ} (x : Reply A) → given written ≡ and_then x (λ a. given (values a)) → Answered itself (given written) before n after
-    → Answered values x before n after
-unfolding and_then
-of_values values {written} (given a) e w = let same : written ≡ values a = cc in stored_as itself values same w
-of_values values (refused m) e w = let z : ◌≡◌ {A = ℕ} 0 1 = cc in absurd (omega arith)
-
-pub gives : {R A B : Type 0} (reply : R → Reply A) (values : A → List B) (answer case : R) (written before after : List B) (n : ℕ) → answer ≡ case → Answered itself (given written) before n after
-    → given written ≡ and_then (reply case) (λ a. given (values a)) → Answered values (reply answer) before n after
-gives reply values answer case written before after n e w g = replies (ap reply (sym e)) (of_values values (reply case) g w)
-
-pub hands_on : {R A : Type 0} (reply : R → Reply A) (C : Type 0) (answer case : R) (store : A → Reply C) (before : C) (n : ℕ) → answer ≡ case → refused n ≡ reply case
-    → Left (reply answer) store before n before
-hands_on reply C answer case store before n e g = refuses (told reply answer case (refused n) e g)
-
 -- ---- two buffers
+
+positive : (e : Refusal) → 1 ≤ number_of e
+positive refusal.BadNumber = omega arith
+positive refusal.BadTolerance = omega arith
+positive refusal.BadOutline = omega arith
+positive refusal.BadIndex = omega arith
+positive refusal.BadOffset = omega arith
+positive refusal.NoArc = omega arith
+positive refusal.UnevenBulges = omega arith
+positive refusal.NoRoom = omega arith
+positive refusal.BadTrim = omega arith
+positive refusal.NotClosed = omega arith
+positive refusal.BadSheet = omega arith
+positive refusal.BadRecord = omega arith
+positive refusal.BadText = omega arith
 
 -- how the writing of values went
 data Went {B : Type 0} (values before : List B) (n : ℕ) (after : List B) : Type 0 where
@@ -105,15 +124,18 @@ module _ {A : Type 0} (values : A → Both) {a : A} {w : List ℕ} {l : List Flo
     second_went some (full e z h) = absurd (some z)
     second_went some (none e z h) = record { returned = z ∙ simp (le-leb _ _ room, e); holds = ap (both w) h ∙ simp (le-leb _ _ room, e) }
 
-    pub second_short : {l' : List Float} {n : ℕ} → (n ≡ 0 → ⊥) → Answered itself (given (values a).numbers) l n l' → BothAnswered values (given a) (both w l) n (both w l')
-    second_short some s = second_went some (went s)
+    pub second_short : {X : Type 0} {l' : List Float} (r : Result X Refusal) (e : Refusal) → IsErr r × IsErrAnd r (λ (y : Refusal). y ≡ e) → Answered itself (given (values a).numbers) l (number_of e) l'
+        → BothAnswered values (given a) (both w l) (done r) (both w l')
+    second_short r e h s =
+        let p = err_from_is_err_and r h.1 in
+        rw (p.1, p.2) (second_went (λ z. absurd (omega (arith, positive e))) (went s))
 
-    both_went : {w' : List ℕ} {l' : List Float} {n m : ℕ} → n ≡ 0 → Went (values a).numbers l n l' → Went (values a).words w m w' → BothAnswered values (given a) (both w l) m (both w' l')
+    both_went : {w' : List ℕ} {l' : List Float} {m : ℕ} → Went (values a).numbers l 0 l' → Went (values a).words w m w' → BothAnswered values (given a) (both w l) m (both w' l')
     unfolding and_then code_of held_by lent_both
-    both_went zero (none e z h) q = let f : ◌≡◌ {A = ℕ} 0 8 = sym zero ∙ z in absurd (omega arith)
-    both_went zero (full e z h) (full e' z' h') = record { returned = z' ∙ simp (e, e'); holds = ap₂ both h' h ∙ simp (e, e') }
-    both_went zero (full e z h) (none e' z' h') = let f : true ≡ false = sym (le-leb _ _ room) ∙ e' in let g : ◌≡◌ {A = ℕ} 0 1 = cc in absurd (omega arith)
+    both_went (none e z h) q = absurd (omega arith)
+    both_went (full e z h) (full e' z' h') = record { returned = z' ∙ simp (e, e'); holds = ap₂ both h' h ∙ simp (e, e') }
+    both_went (full e z h) (none e' z' h') = let f : true ≡ false = sym (le-leb _ _ room) ∙ e' in let g : ◌≡◌ {A = ℕ} 0 1 = cc in absurd (omega arith)
 
-    pub both_stored : {w' : List ℕ} {l' : List Float} {n m : ℕ} → n ≡ 0 → Answered itself (given (values a).numbers) l n l' → Answered itself (given (values a).words) w m w'
+    pub both_stored : {w' : List ℕ} {l' : List Float} {m : ℕ} → Answered itself (given (values a).numbers) l 0 l' → Answered itself (given (values a).words) w m w'
         → BothAnswered values (given a) (both w l) m (both w' l')
-    both_stored zero s t = both_went zero (went s) (went t)
+    both_stored s t = both_went (went s) (went t)

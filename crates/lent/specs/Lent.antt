@@ -1,14 +1,20 @@
 -- What a call returns and what it leaves in lent buffers, of the reply of the call behind it.
-use Rattle.std.specs.Prelude.{ℕ, ◌≡◌, Bool, ◌&&◌, List, [], ◌∷◌, ◌++◌, length, drop, leb, Float}
+use Rattle.std.specs.Prelude.{ℕ, ◌≡◌, Result, Ok, Err, Bool, ◌&&◌, List, [], ◌∷◌, ◌++◌, length, drop, leb, Float}
 use Rattle.std.specs.Float.{binary64}
-use Rattle.real.specs.Refusal.{lacks_room}
+use Rattle.real.specs.Refusal.{number_of, lacks_room}
 use Rattle.real.specs.Reply.{Reply, refused, given, check, and_then}
+use Rattle.real.specs.declared.refusal.Refusal.{Refusal}
 use Rattle.real.specs.Sqrt.{IsSqrt}
 
 -- 0 where it answers, else the refusal
 unfoldable pub code_of : {A : Type 0} → Reply A → ℕ
 code_of (refused n) = n
 code_of (given a) = 0
+
+-- the same of a call that says whether it is done
+abbrev pub done : {A : Type 0} → Result A Refusal → ℕ
+done (Ok a) = 0
+done (Err e) = number_of e
 
 -- "A refusal .. writes to no buffer."
 unfoldable pub held_by : {C : Type 0} → Reply C → C → C

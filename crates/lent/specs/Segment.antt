@@ -2,7 +2,7 @@
 use Rattle.std.specs.Prelude.{List, eqb, length, get_or, Float}
 use Rattle.std.specs.Float.{nan}
 use Rattle.real.specs.Refusal.{bad_outline}
-use Rattle.real.specs.Reply.{Reply, refused, given, check}
+use Rattle.real.specs.Reply.{Reply, given, check}
 use Rattle.plane.specs.Vertex.{vertex_at_of}
 use Rattle.plane.specs.declared.pline_vertex.PlineVertex.{PlineVertex}
 

@@ -1,7 +1,6 @@
 -- The values that an answer is written as.
 use Rattle.std.specs.Prelude.{Bool, cond, List, [], ◌∷◌, ℕ, length, get_or, Float}
-use Rattle.real.specs.Refusal.{lacks_room}
-use Rattle.real.specs.Reply.{Reply, refused, given, and_then}
+use Rattle.real.specs.Reply.{Reply, given, and_then}
 use Rattle.real.specs.Tally.{Tally}
 use Rattle.plane.specs.Grade.{double}
 use Rattle.plane.specs.declared.vector2.Vector2.{Vector2}
@@ -71,8 +70,3 @@ list_reply s d = and_then (vertex_count_of double s d) (λ n. given (both (n ∷
 -- a drawing's outline: its vertex count and 1 for closed or 0, and its numbers in threes
 abbrev pub drawn_values : Drawn → Both
 drawn_values o = both (count_of o.numbers ∷ cond o.closed 1 0 ∷ []) o.numbers
-
--- the code where no word can be written
-unfoldable pub unplaced : {A : Type 0} → Reply A → ℕ
-unplaced (refused n) = n
-unplaced (given a) = lacks_room

@@ -6,21 +6,22 @@ ghost use Rattle.lent.specs.Segment as spec;
 use plane::PlineVertex;
 use real::Refusal;
 
+#[tactic(auto, unfolding(crate::specs::Segment::segment_from))]
 pub fn segment_from_slice(s: &[f64]) -> Result<(PlineVertex, PlineVertex), Refusal>
     ensures { reply result ≡ spec.segment_from s.now }
 {
-    if s.len() != 6 {
+    let [x1, y1, bulge1, x2, y2, bulge2] = *s else {
         return Err(Refusal::BadOutline);
-    }
+    };
     let v1 = PlineVertex {
-        x: s[0],
-        y: s[1],
-        bulge: s[2],
+        x: x1,
+        y: y1,
+        bulge: bulge1,
     };
     let v2 = PlineVertex {
-        x: s[3],
-        y: s[4],
-        bulge: s[5],
+        x: x2,
+        y: y2,
+        bulge: bulge2,
     };
-    Ok(v1, v2)
+    Ok((v1, v2))
 }

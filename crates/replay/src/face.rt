@@ -1,6 +1,11 @@
 // The calls, with the arguments that follow their first slice.
 use crate::read::{bytes, low_byte, number, numbers, word};
-use bisquefern::{bf_seg_arc_radius_and_center, bf_seg_bounding_box, bf_seg_closest_point, bf_seg_distance_is_greater_than, bf_seg_midpoint, bf_seg_split_at_point, bf_seg_tangent_vector, bf_sqrt, bf_vertex, bf_view_count, bf_view_create, bf_view_from_new_start, bf_view_get, bf_view_list, bf_view_mark, bf_view_reverse, bf_view_trim, bf_view_validate};
+use bisquefern::{
+    bf_seg_arc_radius_and_center, bf_seg_bounding_box, bf_seg_closest_point,
+    bf_seg_distance_is_greater_than, bf_seg_midpoint, bf_seg_split_at_point, bf_seg_tangent_vector,
+    bf_sqrt, bf_vertex, bf_view_count, bf_view_create, bf_view_from_new_start, bf_view_get,
+    bf_view_list, bf_view_mark, bf_view_reverse, bf_view_trim, bf_view_validate, code,
+};
 
 // What a line says of a case that does not fit.
 const UNFIT: u8 = 255;
@@ -19,7 +24,7 @@ pub fn on_segment(
     let a = number(words, at.wrapping_add(2));
     let b = number(words, at.wrapping_add(3));
     let c = number(words, at.wrapping_add(4));
-    match call {
+    let answer = match call {
         1 => bf_sqrt(x, out),
         2 => bf_vertex(s, out),
         3 => bf_seg_arc_radius_and_center(s, x, out),
@@ -29,7 +34,8 @@ pub fn on_segment(
         7 => bf_seg_distance_is_greater_than(s, x, y, a, b, c, byte),
         8 => bf_seg_bounding_box(s, x, out),
         _ => bf_seg_midpoint(s, x, out),
-    }
+    };
+    code(answer)
 }
 
 fn create(words: &[u64], at: u64, s: &[f64], vertex: &[f64], out: &mut [u8]) -> u8 {
@@ -41,9 +47,9 @@ fn create(words: &[u64], at: u64, s: &[f64], vertex: &[f64], out: &mut [u8]) -> 
     let traverse = word(words, past);
     let tolerance = number(words, past.wrapping_add(1));
     let limit = number(words, past.wrapping_add(2));
-    bf_view_create(
+    code(bf_view_create(
         s, start, x, y, intersect, vertex, traverse, tolerance, limit, out,
-    )
+    ))
 }
 
 fn new_start(words: &[u64], at: u64, s: &[f64], out: &mut [u8]) -> u8 {
@@ -53,7 +59,7 @@ fn new_start(words: &[u64], at: u64, s: &[f64], out: &mut [u8]) -> u8 {
     let start = word(words, at.wrapping_add(3));
     let tolerance = number(words, at.wrapping_add(4));
     let limit = number(words, at.wrapping_add(5));
-    bf_view_from_new_start(s, closed, x, y, start, tolerance, limit, out)
+    code(bf_view_from_new_start(s, closed, x, y, start, tolerance, limit, out))
 }
 
 fn create_of(words: &[u64], at: u64, s: &[f64], vertex: &[f64], n: usize, out: &mut [u8]) -> u8 {
@@ -89,7 +95,7 @@ fn with_record(
     let i = word(words, past);
     let j = word(words, past.wrapping_add(1));
     let limit = number(words, past);
-    match call {
+    let answer = match call {
         12 => bf_view_validate(s, record, limit, whole, out),
         13 => bf_view_mark(s, closed, record, limit, byte),
         14 => bf_view_count(s, record, whole),
@@ -97,7 +103,8 @@ fn with_record(
         16 => bf_view_list(s, record, out, whole),
         17 => bf_view_reverse(s, record, byte),
         _ => bf_view_trim(s, record, i, j, byte),
-    }
+    };
+    code(answer)
 }
 
 // Calls 12 to 18, with the first n bytes of the record's space.

@@ -1,9 +1,9 @@
 -- Past the reading of the segment, the reply is that of the call behind it.
-use Rattle.bisquefern.proofs.Read.{reads}
+use Rattle.lent.proofs.Laws.{past, stops}
 use Rattle.bisquefern.proofs.segment.bf_seg_closest_point.Goals as goal
 
-pub returns-in-Ok : goal.returns-in-Ok
-returns-in-Ok c = search reads
+pub returns-in_err-v1 : goal.returns-in_err-v1
+returns-in_err-v1 c = stops _ _ _ c.from_residual.ensures c.in_err-v1.ensures
 
-pub returns-in-Err : goal.returns-in-Err
-returns-in-Err c = search reads
+pub returns : goal.returns
+returns c = past _ c.in_ok-v1.ensures c.seg_closest_point.ensures c.give.ensures

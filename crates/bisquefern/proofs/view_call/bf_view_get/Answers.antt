@@ -1,9 +1,10 @@
 -- Past the reading of the record, the reply is that of the call behind it.
-use Rattle.bisquefern.proofs.Read.{reads}
+use Rattle.lent.proofs.Laws.{past, stops}
 use Rattle.bisquefern.proofs.view_call.bf_view_get.Goals as goal
 
-pub returns-in-Ok : goal.returns-in-Ok
-returns-in-Ok c = search reads
+pub returns-in_err-d : goal.returns-in_err-d
+returns-in_err-d c = stops _ _ _ c.from_residual.ensures c.in_err-d.ensures
 
-pub returns-in-Err : goal.returns-in-Err
-returns-in-Err c = search reads
+pub returns : goal.returns
+returns c =
+    past _ c.in_ok-d.ensures c.get_vertex.ensures c.give.ensures

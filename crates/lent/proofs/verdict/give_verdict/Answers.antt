@@ -1,12 +1,25 @@
--- The verdict is written, or the refusal is handed on.
+-- The refusal is handed on; else either buffer may be short; else both hold their values.
 use mathlib.Core.Path.{sym, ap}
-use Rattle.view.specs.Validation.{validation_reply}
-use Rattle.lent.proofs.Laws.{hands_on, replies}
+use Rattle.real.specs.Reply.{reply_by}
+use Rattle.view.specs.Validation.{judged_tally}
+use Rattle.lent.specs.Lent.{itself}
+use Rattle.lent.specs.Values.{verdict_values}
+use Rattle.lent.proofs.Laws.{hands_on, replies, stored_as, first_short, second_short, both_stored}
 use Rattle.lent.proofs.verdict.give_verdict.Goals as goal
 
-pub returns-in-Ok : goal.returns-in-Ok
-returns-in-Ok c =
-    replies (ap validation_reply (sym c.in-Ok.is)) c.put_verdict.ensures
+pub returns-in_err-judged : goal.returns-in_err-judged
+returns-in_err-judged c = hands_on _ _ c.from_residual.ensures (ap (reply_by judged_tally) (sym c.in_err-judged.was))
 
-pub returns-in-Err : goal.returns-in-Err
-returns-in-Err c = search (hands_on validation_reply)
+pub returns-then-whole-lt4 : goal.returns-then-whole-lt4
+returns-then-whole-lt4 c =
+    replies (ap (reply_by judged_tally) (sym c.in_ok-judged.was)) (first_short verdict_values c.if-whole-lt4.true)
+
+pub returns-in_err-write : goal.returns-in_err-write
+returns-in_err-write c =
+    replies (ap (reply_by judged_tally) (sym c.in_ok-judged.was))
+    (second_short verdict_values c.if-whole-lt4.false _ _ c.from_residual-in_err-write.ensures (stored_as itself itself c.verdict_numbers.ensures c.in_err-write.ensures))
+
+pub returns : goal.returns
+returns c =
+    replies (ap (reply_by judged_tally) (sym c.in_ok-judged.was))
+    (both_stored verdict_values c.if-whole-lt4.false (stored_as itself itself c.verdict_numbers.ensures c.in_ok-write.ensures) (stored_as itself itself c.verdict_words.ensures c.write-2.ensures))
