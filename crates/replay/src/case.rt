@@ -1,165 +1,123 @@
 // One case: its arguments from its words, the call, and the answer's line.
-use crate::face::{on_outline, on_record, on_segment};
-use crate::print::{print_byte, print_code, print_end, print_numbers, print_record, print_words};
-use crate::read::{numbers, read_words, word};
+ghost use Rattle.std.specs.Prelude.{◌≤◌};
+
+use crate::call::Call;
+use crate::face::{Buffers, Unanswered, answer};
+use crate::print::{print_numbers, print_record, print_word, print_words};
+use crate::read::read_words;
+use crate::words::Words;
 use std::io::{Read, Write};
 
 // No case has more words, and none of its slices more places.
 const MOST: usize = 8192;
 
-// What a line says of a case that does not fit.
-const UNFIT: u8 = 255;
-
-// Places of the answer buffers.
-#[derive(Clone, Copy)]
-pub struct Room {
-    pub numbers: usize,
-    pub words: usize,
-    pub bytes: usize,
-}
-
-// The rooms are a case's last word, and for two calls the one before it.
-fn room_of(call: u64, before: u64, last: u64) -> Room {
-    match call {
-        7 | 10 | 11 | 13 | 17 | 18 => Room {
-            numbers: 0,
-            words: 0,
-            bytes: last as usize,
-        },
-        12 => Room {
-            numbers: last as usize,
-            words: before as usize,
-            bytes: 0,
-        },
-        14 => Room {
-            numbers: 0,
-            words: last as usize,
-            bytes: 0,
-        },
-        16 => Room {
-            numbers: before as usize,
-            words: last as usize,
-            bytes: 0,
-        },
-        _ => Room {
-            numbers: last as usize,
-            words: 0,
-            bytes: 0,
-        },
-    }
-}
-
-// The call with the slice s of the numbers, and the buffers cut to their rooms.
-fn lend_all(
-    call: u64,
-    words: &[u64],
-    at: u64,
-    s: &[f64],
-    r: Room,
-    out: &mut [f64],
-    whole: &mut [u64],
-    byte: &mut [u8],
-) -> u8 {
-    let n = r.numbers;
-    let w = r.words;
-    let b = r.bytes;
-    if n > out.len() {
-        return UNFIT;
-    }
-    if w > whole.len() {
-        return UNFIT;
-    }
-    if b > byte.len() {
-        return UNFIT;
-    }
-    if call <= 9 {
-        return on_segment(call, words, at, s, &mut out[..n], &mut byte[..b]);
-    }
-    if call <= 11 {
-        return on_outline(call, words, at, s, &mut byte[..b]);
-    }
-    on_record(
-        call,
+// Buffers cut to their rooms, which are a case's last word, and for two calls the one before it.
+fn cut<'a>(
+    space: Buffers<'a>,
+    call: Call,
+    before: usize,
+    last: usize,
+) -> Result<Buffers<'a>, Unanswered> {
+    let Buffers {
+        numbers,
         words,
-        at,
-        s,
-        &mut out[..n],
-        &mut whole[..w],
-        &mut byte[..b],
-    )
-}
-
-// The same, past the reading of the first slice. A square root has none.
-fn lend(
-    call: u64,
-    words: &[u64],
-    s: &[f64],
-    r: Room,
-    out: &mut [f64],
-    whole: &mut [u64],
-    byte: &mut [u8],
-) -> u8 {
-    if call == 1 {
-        return lend_all(call, words, 0, &s[..0], r, out, whole, byte);
-    }
-    let first = word(words, 0);
-    let n = first as usize;
-    if n > s.len() {
-        return UNFIT;
-    }
-    lend_all(
-        call,
-        words,
-        first.wrapping_add(1),
-        &s[..n],
-        r,
-        out,
-        whole,
-        byte,
-    )
+        bytes,
+    } = space;
+    let (n, w, b) = match call {
+        Call::DistanceIsGreaterThan
+        | Call::Create
+        | Call::FromNewStart
+        | Call::Mark
+        | Call::Reverse
+        | Call::Trim => (0, 0, last),
+        Call::Validate => (last, before, 0),
+        Call::Count => (0, last, 0),
+        Call::List => (before, last, 0),
+        _ => (last, 0, 0),
+    };
+    Ok(Buffers {
+        numbers: numbers.get_mut(..n).ok_or(Unanswered::Unfit)?,
+        words: words.get_mut(..w).ok_or(Unanswered::Unfit)?,
+        bytes: bytes.get_mut(..b).ok_or(Unanswered::Unfit)?,
+    })
 }
 
 // The words that an answer wrote.
-fn print_answer<W: Write>(to: &mut W, call: u64, out: &[f64], whole: &[u64], byte: &[u8]) {
+fn print_answer<W: Write>(
+    to: &mut W,
+    call: Call,
+    numbers: &[f64; MOST],
+    words: &[u64; 16],
+    bytes: &[u8; 256],
+) {
     match call {
-        1 => print_numbers(to, out, 1),
-        2 | 3 | 15 => print_numbers(to, out, 3),
-        4 => print_numbers(to, out, 6),
-        5 | 6 | 9 => print_numbers(to, out, 2),
-        8 => print_numbers(to, out, 4),
-        7 | 13 => print_byte(to, byte),
-        12 => {
-            print_words(to, whole, 4);
-            print_numbers(to, out, 5);
+        Call::Sqrt => print_numbers(to, &numbers[..1]),
+        Call::Vertex | Call::ArcRadiusAndCenter | Call::Get => print_numbers(to, &numbers[..3]),
+        Call::SplitAtPoint => print_numbers(to, &numbers[..6]),
+        Call::TangentVector | Call::ClosestPoint | Call::Midpoint => {
+            print_numbers(to, &numbers[..2])
         }
-        14 => print_words(to, whole, 1),
-        16 => {
-            let n = word(whole, 0);
-            print_numbers(to, out, n.wrapping_add(n.wrapping_add(n)));
-            print_words(to, whole, 1);
+        Call::BoundingBox => print_numbers(to, &numbers[..4]),
+        Call::DistanceIsGreaterThan | Call::Mark => print_word(to, u64::from(bytes[0])),
+        Call::Validate => {
+            print_words(to, &words[..4]);
+            print_numbers(to, &numbers[..5]);
         }
-        _ => print_record(to, byte),
+        Call::Count => print_words(to, &words[..1]),
+        Call::List => {
+            let vertices = words[0] as usize;
+            for vertex in numbers.chunks(3).take(vertices) {
+                print_numbers(to, vertex);
+            }
+            print_words(to, &words[..1]);
+        }
+        _ => print_record(to, &bytes[..64]),
     }
 }
 
-// Case k, of a call with n words.
-pub fn run<R: Read, W: Write>(from: &mut R, to: &mut W, k: u64, call: u64, n: u64) -> bool {
+// The call of a case of n words.
+fn run(call: Call, words: &[u64], n: usize, space: Buffers) -> Result<(), Unanswered>
+    requires { 2 ≤ n }
+{
+    let before = words.get(n - 2).copied().unwrap_or(0) as usize;
+    let last = words.get(n - 1).copied().unwrap_or(0) as usize;
+    let mut args = Words::new(words);
+    let mut first = [0.0; MOST];
+    // A square root has no slice.
+    let length = match call {
+        Call::Sqrt => 0,
+        _ => args.word() as usize,
+    };
+    let slice = first.get_mut(..length).ok_or(Unanswered::Unfit)?;
+    args.numbers(slice);
+    answer(call, &mut args, slice, cut(space, call, before, last)?)
+}
+
+// Reads and answers case k, of a call with n words; false for one that is too short.
+pub fn replay<R: Read, W: Write>(from: &mut R, to: &mut W, k: u64, call: Call, n: usize) -> bool {
     if n < 2 {
         return false;
     }
-    let mut words = [0u64; MOST];
-    let mut s = [0.0; MOST];
-    let mut out = [0.0; MOST];
-    let mut whole = [0u64; 16];
-    let mut byte = [0u8; 256];
-    read_words(from, &mut words, n);
-    numbers(&words, 1, n, &mut s);
-    let r = room_of(call, word(&words, n - 2), word(&words, n - 1));
-    let code = lend(call, &words, &s, r, &mut out, &mut whole, &mut byte);
-    print_code(to, k, code);
-    if code == 0 {
-        print_answer(to, call, &out, &whole, &byte);
+    let mut case = [0; MOST];
+    read_words(from, &mut case, n);
+    let mut numbers = [0.0; MOST];
+    let mut words = [0; 16];
+    let mut bytes = [0; 256];
+    let space = Buffers {
+        numbers: &mut numbers,
+        words: &mut words,
+        bytes: &mut bytes,
+    };
+    match run(call, &case, n, space) {
+        Ok(()) => {
+            let _ = write!(to, "{k} 0");
+            print_answer(to, call, &numbers, &words, &bytes);
+        }
+        Err(unanswered) => {
+            let code = unanswered.code();
+            let _ = write!(to, "{k} {code}");
+        }
     }
-    print_end(to);
+    let _ = to.write_all(b"\n");
     true
 }

@@ -5,30 +5,39 @@
 // never from this library.
 #![tactic(auto)]
 
+mod call;
 mod case;
 mod face;
 mod print;
 mod read;
+mod words;
 
-use case::run;
-use read::{Next, read_word};
+use call::Call;
+use case::replay;
+use read::read_word;
 use std::io::{Read, Write};
 
-// One case: its number, and whether there was one.
+// One case: its call and its count of words are the halves of its first word. False where there is none.
 fn step<R: Read, W: Write>(from: &mut R, to: &mut W, k: u64) -> bool {
-    let head = read_word(from);
-    match head {
-        Next::Read(w) => run(from, to, k, w % 4294967296, w / 4294967296),
-        Next::End => false,
-    }
+    let Some(head) = read_word(from) else {
+        return false;
+    };
+    replay(
+        from,
+        to,
+        k,
+        Call::from(head % 0x1_0000_0000),
+        (head / 0x1_0000_0000) as usize,
+    )
 }
 
 // Nothing says that the input ends, so the cases are counted up to a number that no list reaches.
 fn main(rt: HostRuntime) {
     let mut from = rt.stdin();
     let mut to = rt.stdout();
-    let mut k = 0;
-    while k < 4294967296 && step(&mut from, &mut to, k) {
-        k += 1;
+    for k in 0..0x1_0000_0000 {
+        if !step(&mut from, &mut to, k) {
+            return;
+        }
     }
 }

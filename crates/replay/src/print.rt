@@ -1,5 +1,4 @@
 // Words to standard output.
-use crate::read::word_of;
 use real::bits;
 use std::io::Write;
 
@@ -7,59 +6,21 @@ pub fn print_word<W: Write>(to: &mut W, w: u64) {
     let _ = write!(to, " {w:016x}");
 }
 
-// The first n numbers, as far as there are.
-pub fn print_numbers<W: Write>(to: &mut W, s: &[f64], n: u64) {
-    let mut k = 0;
-    while k < s.len() && (k as u64) < n {
-        print_word(to, bits(s[k]));
-        k += 1;
+pub fn print_numbers<W: Write>(to: &mut W, numbers: &[f64]) {
+    for x in numbers {
+        print_word(to, bits(*x));
     }
 }
 
-// The first n words.
-pub fn print_words<W: Write>(to: &mut W, s: &[u64], n: u64) {
-    let mut k = 0;
-    while k < s.len() && (k as u64) < n {
-        print_word(to, s[k]);
-        k += 1;
+pub fn print_words<W: Write>(to: &mut W, words: &[u64]) {
+    for w in words {
+        print_word(to, *w);
     }
-}
-
-// One byte as a word.
-pub fn print_byte<W: Write>(to: &mut W, s: &[u8]) {
-    print_word(to, word_of(&[byte(s, 0), 0, 0, 0, 0, 0, 0, 0]));
-}
-
-fn byte(s: &[u8], at: usize) -> u8 {
-    if at < s.len() { s[at] } else { 0 }
 }
 
 // The 64 bytes of a record, 8 to a word.
-pub fn print_record<W: Write>(to: &mut W, s: &[u8]) {
-    let mut k = 0;
-    while k < 64 {
-        print_word(
-            to,
-            word_of(&[
-                byte(s, k),
-                byte(s, k + 1),
-                byte(s, k + 2),
-                byte(s, k + 3),
-                byte(s, k + 4),
-                byte(s, k + 5),
-                byte(s, k + 6),
-                byte(s, k + 7),
-            ]),
-        );
-        k += 8;
+pub fn print_record<W: Write>(to: &mut W, record: &[u8]) {
+    for bytes in record.as_chunks::<8>().0 {
+        print_word(to, u64::from_le_bytes(*bytes));
     }
-}
-
-// The number of a case and what the call returned.
-pub fn print_code<W: Write>(to: &mut W, k: u64, code: u8) {
-    let _ = write!(to, "{k} {code}");
-}
-
-pub fn print_end<W: Write>(to: &mut W) {
-    let _ = to.write_all(b"\n");
 }
