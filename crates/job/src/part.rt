@@ -70,7 +70,7 @@ impl View<'_> {
     {
         match self.d.validate_for_source(self.outline, LINE_LIMIT) {
             Err(refusal) => put_refused_view(out, self.k, u8::from(refusal)),
-            Ok(judged) => self.put_marked(judged.verdict, list, out),
+            Ok(judged) => self.put_marked(judged.value, list, out),
         }
     }
 }

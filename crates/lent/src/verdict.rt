@@ -7,8 +7,8 @@ ghost use Rattle.lent.specs.Lent.{both, done, BothAnswered};
 ghost use Rattle.lent.specs.Values.{verdict_words_of, verdict_numbers_of, verdict_values};
 
 use crate::write::write;
-use real::Refusal;
-use view::{Judgement, ViewDataValidation};
+use real::{Refusal, Rooted};
+use view::ViewDataValidation;
 
 fn verdict_words(v: ViewDataValidation, roots: u64) -> [u64; 4]
     ensures { result ≡ verdict_words_of (tally (verdict_of v) roots) }
@@ -45,7 +45,7 @@ fn verdict_numbers(v: ViewDataValidation) -> [f64; 5]
 
 // Either may be short; then nothing is written.
 pub fn give_verdict(
-    answer: Result<Judgement, Refusal>,
+    answer: Result<Rooted<ViewDataValidation>, Refusal>,
     whole: &mut [u64],
     out: &mut [f64],
 ) -> Result<(), Refusal>
@@ -55,6 +55,6 @@ pub fn give_verdict(
     if whole.len() < 4 {
         return Err(Refusal::NoRoom);
     }
-    write(&verdict_numbers(judged.verdict), out)?;
-    write(&verdict_words(judged.verdict, judged.roots as u64), whole)
+    write(&verdict_numbers(judged.value), out)?;
+    write(&verdict_words(judged.value, judged.roots as u64), whole)
 }
