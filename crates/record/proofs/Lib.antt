@@ -1,3 +1,3 @@
 -- The theorems: Records, Same.
-mod Past
+mod Words
 pub mod Records

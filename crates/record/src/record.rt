@@ -1,11 +1,10 @@
 // A record: a view's 64 bytes of a sheet.
-ghost use Rattle.std.specs.Prelude.{◌≡◌, ◌+◌, ◌≤◌, length};
+ghost use Rattle.std.specs.Prelude.{◌≡◌, length};
 ghost use Rattle.real.specs.Reply.{reply};
-ghost use Rattle.text.specs.Wrote.{Wrote};
-ghost use Rattle.record.specs.Layout.{record_size};
+ghost use Rattle.text.specs.Wrote.{Piece};
 ghost use Rattle.record.specs.Record as spec;
 
-use crate::bytes::{float_at, le32, put_pattern, put32};
+use crate::bytes::{float_at, le32, put_number, put32};
 use plane::{PlineVertex, Vector2};
 use real::Refusal;
 use view::PlineViewData;
@@ -79,26 +78,23 @@ fn direction(inverted: bool) -> usize
 }
 
 fn put_vertex(out: &mut [u8], at: usize, v: PlineVertex) -> usize
-    requires { at + 24 ≤ length out.old }
-    ensures { (Wrote out.old at (spec.vertex_bytes v) out.new result) × (result ≡ at + 24) }
+    ensures { Piece out.old at (spec.vertex_bytes v) out.new result }
 {
-    let a = put_pattern(out, at, v.x);
-    let b = put_pattern(out, a, v.y);
-    put_pattern(out, b, v.bulge)
+    let a = put_number(out, at, v.x);
+    let b = put_number(out, a, v.y);
+    put_number(out, b, v.bulge)
 }
 
 fn put_point(out: &mut [u8], at: usize, p: Vector2) -> usize
-    requires { at + 16 ≤ length out.old }
-    ensures { (Wrote out.old at (spec.point_bytes p) out.new result) × (result ≡ at + 16) }
+    ensures { Piece out.old at (spec.point_bytes p) out.new result }
 {
-    let a = put_pattern(out, at, p.x);
-    put_pattern(out, a, p.y)
+    let a = put_number(out, at, p.x);
+    put_number(out, a, p.y)
 }
 
 // The start index and the offset.
 fn put_place(out: &mut [u8], at: usize, start: usize, offset: usize) -> usize
-    requires { at + 8 ≤ length out.old }
-    ensures { (Wrote out.old at (spec.place_bytes start offset) out.new result) × (result ≡ at + 8) }
+    ensures { Piece out.old at (spec.place_bytes start offset) out.new result }
 {
     let a = put32(out, at, start);
     put32(out, a, offset)
@@ -106,23 +102,19 @@ fn put_place(out: &mut [u8], at: usize, start: usize, offset: usize) -> usize
 
 // The direction and the cut number.
 fn put_end(out: &mut [u8], at: usize, inverted: bool, cut_number: u32) -> usize
-    requires { at + 8 ≤ length out.old }
-    ensures { (Wrote out.old at (spec.end_bytes inverted cut_number) out.new result) × (result ≡ at + 8) }
+    ensures { Piece out.old at (spec.end_bytes inverted cut_number) out.new result }
 {
     let a = put32(out, at, direction(inverted));
     put32(out, a, cut_number as usize)
 }
 
 fn put_record(out: &mut [u8], d: PlineViewData) -> usize
-    requires { record_size ≤ length out.old }
-    ensures { (Wrote out.old 0 (spec.record_bytes d) out.new result) × (result ≡ record_size) }
+    ensures { Piece out.old 0 (spec.record_bytes d) out.new result }
 {
-    let v = d.updated_start;
-    let p = d.end_point;
     let a = put_place(out, 0, d.start_index, d.end_index_offset);
-    let b = put_vertex(out, a, v);
-    let c = put_pattern(out, b, d.updated_end_bulge);
-    let e = put_point(out, c, p);
+    let b = put_vertex(out, a, d.updated_start);
+    let c = put_number(out, b, d.updated_end_bulge);
+    let e = put_point(out, c, d.end_point);
     put_end(out, e, d.inverted_direction, d.cut_number)
 }
 

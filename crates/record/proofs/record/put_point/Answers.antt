@@ -1,9 +1,8 @@
--- Two patterns, one after the other.
-use native.Mathlib.Omega.{arith}
+-- Two numbers, one after the other.
 use Rattle.record.specs.Record.{point_bytes}
-use Rattle.text.proofs.Writing.{writes}
+use Rattle.text.proofs.Writing.{then}
 use Rattle.record.proofs.record.put_point.Goals as goal
 
 pub returns : goal.returns
 unfolding point_bytes
-returns c = (search writes, omega arith)
+returns c = then c.put_number-a.ensures.piece c.put_number.ensures.piece

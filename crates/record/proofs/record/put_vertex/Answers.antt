@@ -1,9 +1,8 @@
--- Three patterns, one after the other.
-use native.Mathlib.Omega.{arith}
+-- Three numbers, one after the other.
 use Rattle.record.specs.Record.{vertex_bytes}
-use Rattle.text.proofs.Writing.{writes}
+use Rattle.text.proofs.Writing.{three}
 use Rattle.record.proofs.record.put_vertex.Goals as goal
 
 pub returns : goal.returns
 unfolding vertex_bytes
-returns c = (search writes, omega arith)
+returns c = three c.put_number-a.ensures.piece c.put_number-b.ensures.piece c.put_number.ensures.piece
