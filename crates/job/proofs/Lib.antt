@@ -1,6 +1,7 @@
 -- The theorems: Whole, OldSheets, RetiredSheets, Viewing, Same, Example. Sheets has what the program uses.
 mod Ranges
 mod Given
+mod Threes
 mod Lengths
 mod Joined
 mod Fill

@@ -1,15 +1,12 @@
 -- The box of an outline: "least x, y, greatest x, y over all segments (closing one only if closed; a later box replaces an edge only when strictly
 -- beyond it)".
-use Rattle.std.specs.Prelude.{◌≡◌, ℕ, zero, suc, ◌+◌, ◌*◌, ◌-◌, ◌≤◌, Bool, true, cond, List, length, Float}
+use Rattle.std.specs.Prelude.{ℕ, zero, suc, ◌-◌, Bool, cond, Float}
 use Rattle.std.specs.Float.Ieee.{lt}
 use Rattle.plane.specs.Grade.{double}
-use Rattle.plane.specs.Range.{vertex_ok}
 use Rattle.plane.specs.declared.pline_vertex.PlineVertex.{PlineVertex}
 use Rattle.seg.specs.Bounds.{bounds, box_of}
 use Rattle.seg.specs.declared.bounds.Bounds.{Bounds}
 use Rattle.lists.specs.View.{wrapped}
-use Rattle.view.specs.Outline.{all}
-use Rattle.job.specs.Outline.{vertex_in_of}
 
 abbrev pub lesser : Float → Float → Float
 lesser edge other = cond (lt other edge) other edge

@@ -21,9 +21,10 @@ pub(crate) fn put_rows(out: &mut [u8], at: usize, list: &[f64], n: usize) -> usi
     requires { 3 * n ≤ length list.now }
     ensures { Piece out.old at (spec.rows list.now n) out.new result }
 {
+    let (vertices, _) = list.as_chunks::<3>();
     let mut e = at;
-    for k in 0..n {
-        e = put_row(out, e, k, list[3 * k], list[3 * k + 1], list[3 * k + 2]);
+    for (k, v) in vertices[..n].iter().enumerate() {
+        e = put_row(out, e, k, v[0], v[1], v[2]);
     }
     e
 }
