@@ -7,31 +7,23 @@ use lib.ListN.{length}
 use lib.Dec.{leb}
 use lib.Ieee.{Float}
 use borrow.Author.Tests.{le-leb, lt-leb}
-use Rattle.std.specs.Prelude.{Result}
-use Rattle.std.specs.Result.{IsErr, IsErrAnd}
-use Rattle.std.proofs.lemmas.Result.{err_from_is_err_and}
-use Rattle.real.specs.Refusal.{number_of, lacks_room}
+use Rattle.real.specs.Refusal.{lacks_room}
 use Rattle.real.specs.Reply.{Reply, refused, given, and_then}
-use Rattle.real.specs.declared.refusal.Refusal.{Refusal}
 use Rattle.real.proofs.Replies.{same_given, never_given, check_passed, check_failed}
 use Rattle.dxf.specs.Outline.{Drawn, room_for, handed_over}
 use Rattle.dxf.specs.declared.outline.DxfOutline.{DxfOutline}
-use Rattle.lent.specs.Lent.{code_of, done, held_by, lent, lent_both, itself, both, Answered, BothAnswered}
+use Rattle.lent.specs.Lent.{code_of, held_by, lent, lent_both, itself, both, Answered, BothAnswered}
 use Rattle.lent.specs.Values.{drawn_values}
 
 -- ---- without a place for the words: whatever a buffer had room for, the drawing's own refusals come first
 
 module _ (m : ℕ) {w : List ℕ} {l : List Float} (none : length w < 2) where
-  nothing_left : (d : Reply Drawn) (k : ℕ) → refused k ≡ and_then d (room_for m) → BothAnswered drawn_values d (both w l) k (both w l)
+  pub unplaced_refused : (d : Reply Drawn) (k : ℕ) → refused k ≡ and_then d (room_for m) → BothAnswered drawn_values d (both w l) k (both w l)
   unfolding and_then code_of held_by lent_both room_for
-  nothing_left (refused n) k e = record { returned = cc; holds = refl }
-  nothing_left (given o) k e =
+  unplaced_refused (refused n) k e = record { returned = cc; holds = refl }
+  unplaced_refused (given o) k e =
       let f = check_failed {b = leb (length o.numbers) m} lacks_room _ e in
       record { returned = f.1 ∙ simp (lt-leb 2 (length w) none); holds = simp (lt-leb 2 (length w) none) }
-
-  pub unplaced_refused : {X : Type 0} (r : Result X Refusal) (k : Refusal) (d : Reply Drawn) → IsErr r × IsErrAnd r (λ (y : Refusal). y ≡ k) → refused (number_of k) ≡ and_then d (room_for m)
-      → BothAnswered drawn_values d (both w l) (done r) (both w l)
-  unplaced_refused r k d h e = let p = err_from_is_err_and r h.1 in rw (p.1, p.2) (nothing_left d (number_of k) e)
 
   pub unplaced : (d : Reply Drawn) (r : DxfOutline) → given r ≡ and_then d (room_for m) → BothAnswered drawn_values d (both w l) lacks_room (both w l)
   unfolding and_then code_of held_by lent_both
@@ -41,16 +33,12 @@ module _ (m : ℕ) {w : List ℕ} {l : List Float} (none : length w < 2) where
 -- ---- with one
 
 module _ {w : List ℕ} {l l' : List Float} (room : 2 ≤ length w) where
-  handed_back : (d : Reply Drawn) (k : ℕ) → refused k ≡ and_then d (room_for (length l)) → l' ≡ handed_over d l → BothAnswered drawn_values d (both w l) k (both w l')
+  pub drawing_refused : (d : Reply Drawn) (k : ℕ) → refused k ≡ and_then d (room_for (length l)) → l' ≡ handed_over d l → BothAnswered drawn_values d (both w l) k (both w l')
   unfolding and_then code_of held_by lent_both handed_over room_for
-  handed_back (refused n) k e h = record { returned = cc; holds = ap (both w) h }
-  handed_back (given o) k e h =
+  drawing_refused (refused n) k e h = record { returned = cc; holds = ap (both w) h }
+  drawing_refused (given o) k e h =
       let f = check_failed {b = leb (length o.numbers) (length l)} lacks_room _ e in
       record { returned = f.1 ∙ simp (le-leb 2 (length w) room, f.0); holds = ap (both w) (simp f.0 at h) ∙ simp (le-leb 2 (length w) room, f.0) }
-
-  pub drawing_refused : {X : Type 0} (r : Result X Refusal) (k : Refusal) (d : Reply Drawn) → IsErr r × IsErrAnd r (λ (y : Refusal). y ≡ k) → refused (number_of k) ≡ and_then d (room_for (length l)) → l' ≡ handed_over d l
-      → BothAnswered drawn_values d (both w l) (done r) (both w l')
-  drawing_refused r k d h e q = let p = err_from_is_err_and r h.1 in rw (p.1, p.2) (handed_back d (number_of k) e q)
 
   pub drawing_given : {w' : List ℕ} (d : Reply Drawn) (r : DxfOutline) (code : ℕ) → given r ≡ and_then d (room_for (length l)) → l' ≡ handed_over d l
       → Answered itself (given (r.vertices ∷ cond r.closed 1 0 ∷ [])) w code w' → BothAnswered drawn_values d (both w l) code (both w' l')

@@ -21,12 +21,10 @@ pub refuses : {A C : Type 0} {n : ℕ} {x : Reply A} {store : A → Reply C} {be
 unfolding and_then code_of held_by
 refuses {C = C} {n} {x} {store} {before} e = subst (λ r. Left r store before n before) e (record { returned = refl; holds = refl })
 
--- what `?` hands on is the refusal of the call behind it
-pub hands_on : {X A C : Type 0} (r : Result X Refusal) (e : Refusal) {x : Reply A} {store : A → Reply C} {before : C} → IsErr r × IsErrAnd r (λ (y : Refusal). y ≡ e) → refused (number_of e) ≡ x
-    → Left x store before (done r) before
-hands_on r e h q =
-    let p = err_from_is_err_and r h.1 in
-    rw (p.1, p.2) (refuses q)
+-- what `?` hands on has the number of the refusal that it was given
+pub handed_on : {X A C : Type 0} (r : Result X Refusal) (e : Refusal) {x : Reply A} {store : A → Reply C} {before after : C} → IsErr r × IsErrAnd r (λ (y : Refusal). y ≡ e) → Left x store before (number_of e) after
+    → Left x store before (done r) after
+handed_on r e h l = let p = err_from_is_err_and r h.1 in rw (p.1, p.2) l
 
 -- the reply of the call behind it
 pub replies : {A C : Type 0} {x y : Reply A} {store : A → Reply C} {before after : C} {n : ℕ} → x ≡ y → Left x store before n after → Left y store before n after
@@ -44,10 +42,9 @@ pub past : {A B C : Type 0} {a : A} {x : Reply A} {y : Reply B} (call : A → Re
 unfolding and_then
 past call e f l = replies (f ∙ ap (λ r. and_then r call) e) l
 
-pub stops : {X A B C : Type 0} (r : Result X Refusal) (e : Refusal) {x : Reply A} (call : A → Reply B) {store : B → Reply C} {before : C} → IsErr r × IsErrAnd r (λ (y : Refusal). y ≡ e) → refused (number_of e) ≡ x
-    → Left (and_then x call) store before (done r) before
+pub stops : {A B C : Type 0} {x : Reply A} (call : A → Reply B) {store : B → Reply C} {before : C} {n : ℕ} → refused n ≡ x → Left (and_then x call) store before n before
 unfolding and_then
-stops r e call h q = hands_on r e h (ap (λ r. and_then r call) q)
+stops call e = refuses (ap (λ r. and_then r call) e)
 
 module _ {A B : Type 0} (values : A → List B) {a : A} {before : List B} where
   -- the buffer is short
@@ -76,10 +73,6 @@ stored_as {B = B} values values' {before = before} {after} {n} e w =
       returned = w.returned ∙ ap (λ (l : List B). code_of (lent l before)) e;
       holds = w.holds ∙ ap (λ (l : List B). held_by (lent l before) before) e;
     }
-
--- what is said of a case of an answer, said of the answer
-pub told : {A B : Type 0} (f : A → B) (answer case : A) (r : B) → answer ≡ case → r ≡ f case → r ≡ f answer
-told f answer case r e h = h ∙ ap f (sym e)
 
 -- ---- two buffers
 
@@ -124,11 +117,8 @@ module _ {A : Type 0} (values : A → Both) {a : A} {w : List ℕ} {l : List Flo
     second_went some (full e z h) = absurd (some z)
     second_went some (none e z h) = record { returned = z ∙ simp (le-leb _ _ room, e); holds = ap (both w) h ∙ simp (le-leb _ _ room, e) }
 
-    pub second_short : {X : Type 0} {l' : List Float} (r : Result X Refusal) (e : Refusal) → IsErr r × IsErrAnd r (λ (y : Refusal). y ≡ e) → Answered itself (given (values a).numbers) l (number_of e) l'
-        → BothAnswered values (given a) (both w l) (done r) (both w l')
-    second_short r e h s =
-        let p = err_from_is_err_and r h.1 in
-        rw (p.1, p.2) (second_went (λ z. absurd (omega (arith, positive e))) (went s))
+    pub second_short : {l' : List Float} (e : Refusal) → Answered itself (given (values a).numbers) l (number_of e) l' → BothAnswered values (given a) (both w l) (number_of e) (both w l')
+    second_short e s = second_went (λ z. absurd (omega (arith, positive e))) (went s)
 
     both_went : {w' : List ℕ} {l' : List Float} {m : ℕ} → Went (values a).numbers l 0 l' → Went (values a).words w m w' → BothAnswered values (given a) (both w l) m (both w' l')
     unfolding and_then code_of held_by lent_both

@@ -8,18 +8,14 @@ use lib.Dec.{leb}
 use lib.ListN.{length, drop}
 use lib.Ieee.{Float}
 use borrow.Author.Tests.{lt-ltb}
-use Rattle.std.specs.Prelude.{Result}
-use Rattle.std.specs.Result.{IsErr, IsErrAnd}
-use Rattle.std.proofs.lemmas.Result.{err_from_is_err_and}
-use Rattle.real.specs.Refusal.{number_of, lacks_room}
+use Rattle.real.specs.Refusal.{lacks_room}
 use Rattle.real.specs.Reply.{Reply, refused, given, check, and_then}
-use Rattle.real.specs.declared.refusal.Refusal.{Refusal}
 use Rattle.view.specs.Needs.{Placed}
 use Rattle.view.specs.declared.view_data.PlineViewData.{PlineViewData}
 use Rattle.record.specs.Layout.{record_size, word_limit}
 use Rattle.record.specs.Record.{record_bytes, record_to, buffer_by, record_buffer}
 use Rattle.record.proofs.Records.{record_length}
-use Rattle.lent.specs.Lent.{code_of, done, held_by, lent, Answered}
+use Rattle.lent.specs.Lent.{code_of, held_by, lent, Answered}
 use Rattle.lent.specs.Values.{record_lent, RecordAnswered}
 
 module _ {d : PlineViewData} {before after : List ℕ} where
@@ -27,13 +23,9 @@ module _ {d : PlineViewData} {before after : List ℕ} where
   unfolding record_lent and_then code_of held_by
   record_given e h = record { returned = simp (sym e); holds = simp (sym e) h }
 
-  refused_by : {n : ℕ} → refused n ≡ record_to d (length before) → after ≡ record_buffer d before → RecordAnswered (given d) before n after
+  pub record_refused : {n : ℕ} → refused n ≡ record_to d (length before) → after ≡ record_buffer d before → RecordAnswered (given d) before n after
   unfolding record_lent and_then code_of held_by record_buffer buffer_by
-  refused_by e h = record { returned = simp (sym e); holds = h ∙ simp (sym e) }
-
-  pub record_refused : {X : Type 0} (r : Result X Refusal) (e : Refusal) → IsErr r × IsErrAnd r (λ (y : Refusal). y ≡ e) → refused (number_of e) ≡ record_to d (length before) → after ≡ record_buffer d before
-      → RecordAnswered (given d) before (done r) after
-  record_refused r e f q h = let p = err_from_is_err_and r f.1 in rw (p.1, p.2) (refused_by q h)
+  record_refused e h = record { returned = simp (sym e); holds = h ∙ simp (sym e) }
 
 by_room : (x before : List ℕ) (t : Bool) → and_then (check t lacks_room (given record_size)) (λ n. given (buffer_by (check t lacks_room (given record_size)) x before)) ≡ check t lacks_room (given (x ++ drop record_size before))
 unfolding and_then buffer_by

@@ -1,9 +1,9 @@
 -- Past the reading of the record, the reply is that of the call behind it.
-use Rattle.lent.proofs.Laws.{past, stops, by_reading}
+use Rattle.lent.proofs.Laws.{handed_on, past, stops, by_reading}
 use Rattle.bisquefern.proofs.view_call.bf_view_mark.Goals as goal
 
 pub returns-in_err-d : goal.returns-in_err-d
-returns-in_err-d c = stops _ _ _ c.from_residual.ensures c.in_err-d.ensures
+returns-in_err-d c = handed_on _ _ c.from_residual.ensures (stops _ c.in_err-d.ensures)
 
 pub returns : goal.returns
 returns c =

@@ -4,11 +4,11 @@ use Rattle.real.specs.Reply.{reply_by}
 use Rattle.view.specs.Validation.{judged_tally}
 use Rattle.lent.specs.Lent.{itself}
 use Rattle.lent.specs.Values.{verdict_values}
-use Rattle.lent.proofs.Laws.{hands_on, replies, stored_as, first_short, second_short, both_stored}
+use Rattle.lent.proofs.Laws.{handed_on, refuses, replies, stored_as, first_short, second_short, both_stored}
 use Rattle.lent.proofs.verdict.give_verdict.Goals as goal
 
 pub returns-in_err-judged : goal.returns-in_err-judged
-returns-in_err-judged c = hands_on _ _ c.from_residual.ensures (ap (reply_by judged_tally) (sym c.in_err-judged.was))
+returns-in_err-judged c = handed_on _ _ c.from_residual.ensures (refuses (ap (reply_by judged_tally) (sym c.in_err-judged.was)))
 
 pub returns-then-whole-lt4 : goal.returns-then-whole-lt4
 returns-then-whole-lt4 c =
@@ -17,7 +17,7 @@ returns-then-whole-lt4 c =
 pub returns-in_err-write : goal.returns-in_err-write
 returns-in_err-write c =
     replies (ap (reply_by judged_tally) (sym c.in_ok-judged.was))
-    (second_short verdict_values c.if-whole-lt4.false _ _ c.from_residual-in_err-write.ensures (stored_as itself itself c.verdict_numbers.ensures c.in_err-write.ensures))
+    (handed_on _ _ c.from_residual-in_err-write.ensures (second_short verdict_values c.if-whole-lt4.false _ (stored_as itself itself c.verdict_numbers.ensures c.in_err-write.ensures)))
 
 pub returns : goal.returns
 returns c =
