@@ -19,7 +19,7 @@ pub fn put_byte(out: &mut [u8], at: usize, b: u8) -> usize
     at + 1
 }
 
-// A text that fits.
+// A text that fits. In a loop of ours LLVM knows that text and buffer do not overlap; at copy_from_slice it makes a test of it.
 pub(crate) fn copy(out: &mut [u8], at: usize, text: &[u8]) -> usize
     requires { at + length text.now ≤ length out.old }
     ensures { Wrote out.old at text.now out.new result }
