@@ -38,7 +38,7 @@ struct View<'a> {
 
 impl View<'_> {
     // The line and the rows of a cut view, which lists without refusal.
-    fn put_cut(&self, number: u8, list: &mut [f64], out: &mut [u8]) -> usize
+    fn put_cut(&self, number: u8, list: &mut [f64; LIST_NUMBERS], out: &mut [u8]) -> usize
         requires { views.Lists self.now.outline.now self.now.d (length list.old) }
         ensures text { views.Part out.old (views.mark_text self.now.outline.now self.now.d self.now.k number cut) out.new result }
         ensures list { list.new ≡ written double self.now.outline.now self.now.d list.old }
@@ -49,9 +49,13 @@ impl View<'_> {
     }
 
     // A view with a verdict.
-    fn put_marked(&self, verdict: ViewDataValidation, list: &mut [f64], out: &mut [u8]) -> usize
-        requires room { length list.old ≡ views.list_numbers_of }
-        requires judged { validate_of double double.line self.now.outline.now self.now.d ≡ given (verdict_of verdict) }
+    fn put_marked(
+        &self,
+        verdict: ViewDataValidation,
+        list: &mut [f64; LIST_NUMBERS],
+        out: &mut [u8],
+    ) -> usize
+        requires { validate_of double double.line self.now.outline.now self.now.d ≡ given (verdict_of verdict) }
         ensures text { views.Part out.old (views.view_text self.now.closed self.now.outline.now self.now.k self.now.d) out.new result }
         ensures list { list.new ≡ views.view_buffer self.now.closed self.now.outline.now self.now.d list.old }
     {
@@ -63,8 +67,7 @@ impl View<'_> {
     }
 
     // The view's line, and its rows where it is cut.
-    fn put(&self, list: &mut [f64], out: &mut [u8]) -> usize
-        requires { length list.old ≡ views.list_numbers_of }
+    fn put(&self, list: &mut [f64; LIST_NUMBERS], out: &mut [u8]) -> usize
         ensures text { views.Part out.old (views.view_text self.now.closed self.now.outline.now self.now.k self.now.d) out.new result }
         ensures list { list.new ≡ views.view_buffer self.now.closed self.now.outline.now self.now.d list.old }
     {
@@ -93,9 +96,14 @@ impl Sheet<'_> {
     }
 
     // View k, over an outline.
-    fn put_view(&self, k: usize, outline: &[f64], list: &mut [f64], out: &mut [u8]) -> usize
-        requires inside { k < self.now.header.views }
-        requires room { length list.old ≡ views.list_numbers_of }
+    fn put_view(
+        &self,
+        k: usize,
+        outline: &[f64],
+        list: &mut [f64; LIST_NUMBERS],
+        out: &mut [u8],
+    ) -> usize
+        requires { k < self.now.header.views }
         ensures text { views.Part out.old (spec.view_part self.now.bytes.now outline.now k) out.new result }
         ensures list { list.new ≡ spec.view_buffer_of self.now.bytes.now outline.now k list.old }
     {
@@ -109,8 +117,13 @@ impl Sheet<'_> {
     }
 
     // Part k, over an outline.
-    fn put_part(&self, k: usize, outline: &[f64], list: &mut [f64], out: &mut [u8]) -> usize
-        requires { length list.old ≡ views.list_numbers_of }
+    fn put_part(
+        &self,
+        k: usize,
+        outline: &[f64],
+        list: &mut [f64; LIST_NUMBERS],
+        out: &mut [u8],
+    ) -> usize
         ensures text { views.Part out.old (spec.part_text self.now.bytes.now outline.now k) out.new result }
         ensures list { list.new ≡ spec.part_buffer self.now.bytes.now outline.now k list.old }
     {

@@ -16,8 +16,7 @@ pub struct Opened {
 
 impl Sheet<'_> {
     // Checks what follows the header, and decodes the outline.
-    fn open(&self, outline: &mut [f64]) -> Result<Opened, Refusal>
-        requires { length outline.old ≡ spec.outline_numbers }
+    fn open(&self, outline: &mut [f64; OUTLINE_NUMBERS]) -> Result<Opened, Refusal>
         ensures { (reply result ≡ spec.open_of self.now.bytes.now) × (outline.new ≡ spec.open_buffer self.now.bytes.now outline.old) }
     {
         if !self.records_are_sound() {

@@ -1,19 +1,11 @@
 -- The header's check, and the rest by its promise.
 use mathlib.Core.Path.{ap, ◌∙◌}
-use mathlib.Core.List.{List}
-use Prim.Native.Nat.{ℕ}
-use denote.Bor.{Bor}
 use Rattle.real.specs.Refusal.{bad_sheet}
 use Rattle.real.specs.Reply.{refused}
-use Rattle.real.proofs.Replies.{same_given, check_passed, check_failed, handed}
+use Rattle.real.proofs.Replies.{check_failed, handed}
 use Rattle.view.specs.Answers.{buffer_after}
 use Rattle.job.specs.Sheet.{sheet_of, open_of, open_buffer}
 use Rattle.job.proofs.sheet.open_sheet.Goals as goal
-
-pub returns : goal.returns
-returns c =
-    let e = ap (λ (b : Bor (List ℕ)). b.now) (same_given (check_passed bad_sheet _ c.in_ok-read.ensures).1) in
-    (c.open.ensures.0 ∙ ap open_of e, c.open.ensures.1 ∙ ap (λ (b : List ℕ). open_buffer b c.args.outline.now) e)
 
 pub returns-in_err-read : goal.returns-in_err-read
 unfolding open_of open_buffer sheet_of buffer_after

@@ -1,5 +1,5 @@
 -- After i turns the first i numbers stand in the buffer.
-use mathlib.Core.Path.{◌≡◌, refl, sym, ap, ◌∙◌}
+use mathlib.Core.Path.{refl, sym, ap, ◌∙◌}
 use mathlib.Core.List.{List, ◌++◌}
 use Prim.Native.Nat.{ℕ, ◌+◌, ◌*◌}
 use native.Mathlib.Omega.{arith}
@@ -10,7 +10,6 @@ use Rattle.lists.specs.Plain.{tab}
 use Rattle.record.specs.Bytes.{float_at}
 use Rattle.job.specs.Header.{header_size}
 use Rattle.job.specs.Outline.{numbers_in}
-use Rattle.job.specs.declared.header.Header.{Header}
 use Rattle.job.proofs.Fill.{fill_next}
 use Rattle.job.proofs.header.Sheet.decode.Goals as goal
 
@@ -27,12 +26,3 @@ loop-i-preserved c =
     ap (λ (o : List Float). set o l.i c.float_at.result) l.invariant
     ∙ fill_next f out l.i c.float_at.result (omega arith) c.float_at.ensures
     ∙ ap (λ (m : ℕ). tab f m ++ drop m out) (sym (add-one l.i))
-
-pub returns : goal.returns
-returns c =
-    let s = c.args.self.now in
-    let out = c.args.out.now in
-    let e : c.loop-i.i ≡ 3 * s.header.vertices = omega arith in
-    c.loop-i.invariant
-    ∙ ap (λ (m : ℕ). numbers_in s.bytes.now m ++ drop m out) e
-    ∙ ap (λ (h : Header). numbers_in s.bytes.now (3 * h.vertices) ++ drop (3 * s.header.vertices) out) s.is

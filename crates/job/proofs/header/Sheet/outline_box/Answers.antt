@@ -1,8 +1,6 @@
 -- After k turns the box is that of the segments 0 to k.
-use mathlib.Core.Path.{◌≡◌, ap, ap₂, ◌∙◌}
+use mathlib.Core.Path.{ap₂, ◌∙◌}
 use native.Mathlib.Numerals.{add-one}
-use native.Mathlib.Omega.{arith}
-use Rattle.job.specs.Outline.{vertex_in_of}
 use Rattle.job.specs.Extent.{box_to, wider}
 use Rattle.job.proofs.header.Sheet.outline_box.Goals as goal
 
@@ -14,9 +12,3 @@ pub loop-k-preserved : goal.loop-k-preserved
 unfolding box_to
 loop-k-preserved c =
     rw (add-one c.loop-k.k) (c.wider-b.ensures ∙ ap₂ wider c.loop-k.invariant (rw (← add-one c.loop-k.k) c.segment_box.ensures))
-
-pub returns : goal.returns
-returns c =
-    let s = c.args.self.now in
-    let e : c.loop-k.k ≡ c.args.last = omega arith in
-    c.loop-k.invariant ∙ ap (box_to (vertex_in_of s.bytes.now) s.header.vertices) e

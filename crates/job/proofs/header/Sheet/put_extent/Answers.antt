@@ -28,9 +28,6 @@ returns-then-n-lt2 c =
     let length = no_box_length c.is_retired-retired.result in
     named_part (ended ∙ simp e (no_box _ s.header s.is c.if-n-lt2.true)) (record { piece = c.put_no_box.ensures; short = omega arith })
 
-pub outline_box-requires : goal.outline_box-requires
-outline_box-requires c = record { sound = passed c.vertices_are_sound.ensures c.if-not-vertices_are_sound.false; inside = c.last_segment-last.ensures.1 }
-
 pub returns : goal.returns
 unfolding box_part
 returns c =

@@ -10,7 +10,7 @@ use Rattle.job.proofs.part.View.put.Goals as goal
 
 pub put_marked-requires : goal.put_marked-requires
 put_marked-requires c =
-    record { room = c.requires; judged = verdict_told double double.line _ _ (Ok c.in-Ok.judged) c.in-Ok.ensures }
+    verdict_told double double.line _ _ (Ok c.in-Ok.judged) c.in-Ok.ensures
 
 pub returns-in-Err : goal.returns-in-Err
 returns-in-Err c =

@@ -4,7 +4,6 @@ use mathlib.Core.List.{List, ◌++◌}
 use Prim.Native.Nat.{ℕ}
 use native.Mathlib.Omega.{arith}
 use lib.Ieee.{Float}
-use Rattle.std.specs.Prelude.{is_ok}
 use Rattle.view.specs.Record.{vertices}
 use Rattle.view.specs.Validation.{cut}
 use Rattle.text.proofs.Writing.{then}
@@ -16,14 +15,6 @@ use Rattle.job.proofs.Lengths.{cut_length}
 use Rattle.job.proofs.Viewing.{list_written, list_rows}
 use Rattle.job.proofs.Parting.{named_part}
 use Rattle.job.proofs.part.View.put_cut.Goals as goal
-
-pub unwrap-count-requires : goal.unwrap-count-requires
-unwrap-count-requires c = ap is_ok (is_given _ (c.list.ensures.0 ∙ c.requires.list))
-
-pub put_rows-requires : goal.put_rows-requires
-put_rows-requires c =
-    let n : c.unwrap-count.result ≡ vertices c.args.self.now.d = cc (c.unwrap-count.ensures, is_given _ (c.list.ensures.0 ∙ c.requires.list)) in
-    omega (arith, n, c.requires.room, c.list.auto.out)
 
 pub returns : goal.returns
 unfolding mark_text
