@@ -71,12 +71,6 @@ pub fn record_from_bytes(bytes: &[u8]) -> Result<PlineViewData, Refusal>
     Ok(record_of(bytes))
 }
 
-fn direction(inverted: bool) -> usize
-    ensures { result ≡ spec.direction_of inverted }
-{
-    if inverted { 1 } else { 0 }
-}
-
 fn put_vertex(out: &mut [u8], at: usize, v: PlineVertex) -> usize
     ensures { Piece out.old at (spec.vertex_bytes v) out.new result }
 {
@@ -104,7 +98,7 @@ fn put_place(out: &mut [u8], at: usize, start: usize, offset: usize) -> usize
 fn put_end(out: &mut [u8], at: usize, inverted: bool, cut_number: u32) -> usize
     ensures { Piece out.old at (spec.end_bytes inverted cut_number) out.new result }
 {
-    let a = put32(out, at, direction(inverted));
+    let a = put32(out, at, usize::from(inverted));
     put32(out, a, cut_number as usize)
 }
 
