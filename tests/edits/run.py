@@ -156,7 +156,7 @@ def own(said, crate):
     alone, with_others = {}, {}
     for line in said:
         verdict = VERDICT.match(line)
-        if verdict and verdict[1] == crate and verdict[3] != "proved":
+        if verdict and verdict[1] == crate and not verdict[3].startswith("proved"):
             (with_others if "it calls" in verdict[3] else alone)[verdict[2]] = verdict[3]
     return alone, with_others
 

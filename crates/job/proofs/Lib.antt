@@ -1,4 +1,4 @@
--- The theorems: Whole, OldSheets, RetiredSheets, Viewing, Same, Example. Sheets has what the program uses.
+-- The theorems: Whole, OldSheets, RetiredSheets, Viewing, Example. Sheets has what the program uses.
 mod Ranges
 mod Given
 mod Threes
