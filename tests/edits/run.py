@@ -43,6 +43,8 @@ EDIT = re.compile(r"(file( old new)+( |$))+")
 HEAD = re.compile(r"# ([a-z][a-z0-9_]*): (.+)\.$")
 REFUSED = re.compile(r"# refused: (proofs/[A-Za-z/]+\.antt|[A-Za-z0-9_:]+)$")
 VERDICT = re.compile(r"^fn ([a-z0-9_]+)::([A-Za-z0-9_:]+): (.+)$")
+# a closure is proved where its callers give what it asks, and they are judged themselves
+PROVED = ("proved", "proved where its callers give what it asks")
 ERROR = re.compile(r"^\./(proofs/[^:]+):\d+:\d+: error: (.*)$")
 # what an error says where a proof does not fit the code's shape any more: a goal, a place or a fact that it names is gone
 SHAPE = re.compile(r"has no field|has no `[^`]*` that can be named|is not in scope|mir\.Table\.spell")
@@ -156,7 +158,7 @@ def own(said, crate):
     alone, with_others = {}, {}
     for line in said:
         verdict = VERDICT.match(line)
-        if verdict and verdict[1] == crate and not verdict[3].startswith("proved"):
+        if verdict and verdict[1] == crate and verdict[3] not in PROVED:
             (with_others if "it calls" in verdict[3] else alone)[verdict[2]] = verdict[3]
     return alone, with_others
 
