@@ -1,4 +1,5 @@
-// The calls of the C face, by the number that a case has.
+// The calls of the C face, by the number that a case has. No stored case has another number: 0 is answered as the midpoint, and
+// what is above 18 as a trim, but in neither's room.
 #[derive(Clone, Copy, Debug, PartialEq, Eq)]
 pub enum Call {
     Sqrt,
@@ -19,6 +20,8 @@ pub enum Call {
     List,
     Reverse,
     Trim,
+    Zero,
+    Above,
 }
 
 impl From<u64> for Call {
@@ -32,7 +35,7 @@ impl From<u64> for Call {
             6 => Call::ClosestPoint,
             7 => Call::DistanceIsGreaterThan,
             8 => Call::BoundingBox,
-            0 | 9 => Call::Midpoint,
+            9 => Call::Midpoint,
             10 => Call::Create,
             11 => Call::FromNewStart,
             12 => Call::Validate,
@@ -41,7 +44,9 @@ impl From<u64> for Call {
             15 => Call::Get,
             16 => Call::List,
             17 => Call::Reverse,
-            _ => Call::Trim,
+            18 => Call::Trim,
+            0 => Call::Zero,
+            _ => Call::Above,
         }
     }
 }

@@ -106,7 +106,7 @@ pub fn answer(call: Call, args: &mut Words, s: &[f64], lent: Buffers) -> Result<
             bf_seg_distance_is_greater_than(s, x, y, distance, tolerance, args.number(), bytes)
         }
         Call::BoundingBox => bf_seg_bounding_box(s, args.number(), numbers),
-        Call::Midpoint => bf_seg_midpoint(s, args.number(), numbers),
+        Call::Midpoint | Call::Zero => bf_seg_midpoint(s, args.number(), numbers),
         Call::Create => return create(args, s, bytes),
         Call::FromNewStart => {
             let closed = args.byte();
