@@ -1,10 +1,12 @@
 // Writing. What is handed on to the output is asked for by a contract: it is the text meant.
 ghost use Rattle.std.specs.Prelude.{◌≡◌};
+ghost use Rattle.real.specs.Refusal.{number_of};
 ghost use Rattle.job.specs.Rows.{joined};
 ghost use Rattle.job.specs.Lines.{refused_line};
 ghost use Rattle.job.specs.Parts.{part_text, sheet_text};
 
 use job::{LIST_NUMBERS, OUTLINE_NUMBERS, PART_BYTES, open_sheet, refused_sheet, sheet_part};
+use real::Refusal;
 use std::io;
 use std::io::Write;
 
@@ -50,12 +52,12 @@ fn write_parts<W: Write>(
 fn write_refused<W: Write>(
     out: &mut W,
     bytes: &[u8],
-    number: u8,
+    refusal: Refusal,
     text: &mut [u8; PART_BYTES],
 ) -> io::Result<()>
-    requires { refused_line number ≡ sheet_text bytes.now }
+    requires { refused_line (number_of refusal) ≡ sheet_text bytes.now }
 {
-    let n = refused_sheet(number, text);
+    let n = refused_sheet(u8::from(refusal), text);
     hand_whole(out, bytes, &text[..n])
 }
 
@@ -64,7 +66,7 @@ pub(crate) fn write_sheet<W: Write>(out: &mut W, bytes: &[u8]) -> io::Result<()>
     let mut text = [0; PART_BYTES];
     let mut outline = [0.0; OUTLINE_NUMBERS];
     match open_sheet(bytes, &mut outline) {
-        Err(refusal) => write_refused(out, bytes, u8::from(refusal), &mut text),
+        Err(refusal) => write_refused(out, bytes, refusal, &mut text),
         Ok(opened) => write_parts(
             out,
             bytes,

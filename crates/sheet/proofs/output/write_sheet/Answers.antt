@@ -13,7 +13,7 @@ use Rattle.job.proofs.Whole.{parts_whole, refused_whole}
 use Rattle.sheet.proofs.output.write_sheet.Goals as goal
 
 pub write_refused-requires : goal.write_refused-requires
-write_refused-requires g c = rw c.from.ensures (refused_whole _ _ (sym c.in-Err.ensures.0))
+write_refused-requires g c = refused_whole _ _ (sym c.in-Err.ensures.0)
 
 pub slice_bounds-outline-end : goal.slice_bounds-outline-end
 slice_bounds-outline-end g c =
