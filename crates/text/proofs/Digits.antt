@@ -53,6 +53,10 @@ last : (k n : ℕ) → n < 10 → decimals (suc k) n ≡ digit n ∷ []
 unfolding decimals
 last k n h = rw (lt-ltb n 10 h)
 
+pub one_digit : (n : ℕ) → n < 10 → digit n ∷ [] ≡ decimal n
+unfolding decimal
+one_digit n h = sym (last 19 n h)
+
 more : (k n : ℕ) → 10 ≤ n → decimals (suc k) n ≡ decimals k (n / 10) ++ digit (n % 10) ∷ []
 unfolding decimals
 more k n h = rw (le-ltb n 10 h)
