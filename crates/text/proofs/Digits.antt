@@ -34,6 +34,14 @@ two_more k n w e =
     ∙ append_assoc (digits k (n / 10 / 10)) (digit (n / 10 % 10) ∷ []) (digit (n % 10) ∷ w)
     ∙ rw (p, q, r) refl
 
+-- four of them, as two pairs
+pub four_more : (k n : ℕ) (w : List ℕ) {m : ℕ} → m ≡ suc (suc (suc (suc k))) → digits m n ++ w ≡ digits k (n / 10000) ++ digit (n % 10000 / 100 / 10) ∷ digit (n % 10000 / 100 % 10) ∷ digit (n % 10000 % 100 / 10) ∷ digit (n % 10000 % 100 % 10) ∷ w
+four_more k n w e =
+    let p : n / 100 / 100 ≡ n / 10000 = omega arith in
+    let q : n / 100 % 100 ≡ n % 10000 / 100 = omega arith in
+    let r : n % 100 ≡ n % 10000 % 100 = omega arith in
+    two_more (suc (suc k)) n w e ∙ two_more k (n / 100) _ refl ∙ rw (p, q, r) refl
+
 pub one_more : (n : ℕ) (w : List ℕ) {m : ℕ} → m ≡ 1 → digits m n ++ w ≡ digit (n % 10) ∷ w
 unfolding digits
 one_more n w e = ap (λ (m : ℕ). digits m n ++ w) e
@@ -75,10 +83,6 @@ join (suc k) j a b h =
 last : (k n : ℕ) → n < 10 → decimals (suc k) n ≡ digit n ∷ []
 unfolding decimals
 last k n h = rw (lt-ltb n 10 h)
-
-pub one_digit : (n : ℕ) → n < 10 → digit n ∷ [] ≡ decimal n
-unfolding decimal
-one_digit n h = sym (last 19 n h)
 
 more : (k n : ℕ) → 10 ≤ n → decimals (suc k) n ≡ decimals k (n / 10) ++ digit (n % 10) ∷ []
 unfolding decimals

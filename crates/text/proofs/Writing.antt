@@ -154,6 +154,10 @@ two_before l t i a b {m} {j} e p =
     one_before (set l i a) t (i + 1) b (omega arith) (ap (λ (o : List ℕ). set o i a) p ∙ set_sets l i j a t (omega arith))
     ∙ ap (λ (k : ℕ). sets (set l i a) k (b ∷ t)) (omega arith)
 
+pub four_before : (l t : List ℕ) (i a b c d : ℕ) {m n o : List ℕ} {j : ℕ} → j ≡ i + 4 → m ≡ sets l j t → n ≡ set (set m (i + 2) c) (i + 2 + 1) d → o ≡ set (set n i a) (i + 1) b → o ≡ sets l i (a ∷ b ∷ c ∷ d ∷ t)
+four_before l t i a b c d {m} {n} {o} {j} e p q r =
+    r ∙ two_before l (c ∷ d ∷ t) i a b {m = n} {j = i + 2} refl (q ∙ two_before l t (i + 2) c d {m = m} {j = j} (omega arith) p)
+
 -- text from the start of a buffer that has room for it
 pub filled : {l l' t : List ℕ} {e : ℕ} → Wrote l 0 t l' e → e ≤ length l → Filled t l l' e
 filled {l} {l'} {t} {e} w h =
