@@ -41,7 +41,7 @@ fn put_digits(out: &mut [u8], at: usize, count: usize, n: u64) -> usize
         put_pair(out, at + left, (four / 100) as u8);
         rest /= 10000;
     }
-    while left >= 2 {
+    if left >= 2 {
         left -= 2;
         put_pair(out, at + left, (rest % 100) as u8);
         rest /= 100;

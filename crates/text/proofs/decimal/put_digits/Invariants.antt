@@ -14,9 +14,3 @@ invariant-loop-left l = Behind l.initial.out l.out l.at l.count l.n l.left l.res
 
 abbrev pub decreases-loop-left : goal.decreases-loop-left
 decreases-loop-left l = l.left
-
-abbrev pub invariant-loop-left-2 : goal.invariant-loop-left-2
-invariant-loop-left-2 l = Behind l.fn.out l.out l.at l.count l.n l.left l.rest
-
-abbrev pub decreases-loop-left-2 : goal.decreases-loop-left-2
-decreases-loop-left-2 l = l.left
