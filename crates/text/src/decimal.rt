@@ -5,7 +5,7 @@ ghost use Rattle.text.specs.Wrote.{Wrote, Put};
 
 use crate::piece::has_room;
 
-// How many digits n has. Short numbers are most of a sheet's, and the logarithm takes longer than they do.
+// How many digits n has. Most numbers of a sheet are short, and the logarithm takes longer than all else of them.
 fn count_digits(n: u64) -> usize
     ensures { result ≡ length (spec.decimal n) }
 {
@@ -18,13 +18,14 @@ fn count_digits(n: u64) -> usize
     }
 }
 
-// Two digits.
+// Two digits. Their codes, `b'0' + pair / 10` and `b'0' + pair % 10`, are bytes of one number, so that they are stored together.
 fn put_pair(out: &mut [u8], at: usize, pair: u8)
     requires { (pair < 100) × (at + 2 ≤ length out.old) }
     ensures { out.new ≡ set (set out.old at (spec.digit (pair / 10))) (at + 1) (spec.digit (pair % 10)) }
 {
-    out[at] = b'0' + pair / 10;
-    out[at + 1] = b'0' + pair % 10;
+    let codes = 0x3030 + pair as u16 * 0x100 - (pair / 10) as u16 * 0x9ff;
+    out[at] = (codes % 0x100) as u8;
+    out[at + 1] = (codes / 0x100) as u8;
 }
 
 // The last digits of n, from the end: four at a time, a pair and one.
