@@ -1,11 +1,13 @@
 -- What each code does to the reader's state and buffer, against what it does to what has been read.
 use mathlib.Core.Path.{◌≡◌, refl, sym, ap, ap₂, ◌∙◌, subst}
-use mathlib.Core.List.{List, [], ◌∷◌, ◌++◌}
+use mathlib.Core.List.{List, [], ◌∷◌, ◌++◌, append_assoc}
 use mathlib.Core.Bool.{Bool, true, false, not, ◌&&◌}
-use Prim.Native.Nat.{ℕ, ◌+◌, ◌-◌, ◌*◌, ◌/◌, ◌%◌, ◌≤◌, ◌<◌}
+use Prim.Native.Nat.{ℕ, suc, ◌+◌, ◌-◌, ◌*◌, ◌/◌, ◌%◌, ◌≤◌, ◌<◌}
+use native.Mathlib.Numerals.{add-one}
 use native.Mathlib.Decide.{ℕ_discrete}
 use native.Mathlib.Omega.{arith}
 use lib.ListN.{length, take, set, length-set, length-append}
+use lib.Seq.{take-suc-set}
 use lib.Dec.{eqb}
 use lib.Ieee.{Float}
 use borrow.Author.Tests.{eq-eqb, ne_eqb, lt-leb, le-leb}
@@ -25,6 +27,21 @@ use Rattle.numeral.proofs.Values.{kept_under, kept_parity, kept_only, whole_read
 use Rattle.dxf.specs.Entity.{Seen, count_step, closed_step, x_step, y_step, bulge_step, step_from, step_of, settled, counts}
 use Rattle.dxf.specs.State.{Holds, Read, Steps}
 use Rattle.dxf.specs.declared.state.State.{State}
+
+-- ---- the buffer
+
+pub put_three : {A : Type 0} (l : List A) (i : ℕ) (x y z : A) → i + 2 < length l → take (i + 3) (set (set (set l i x) (i + 1) y) (i + 2) z) ≡ take i l ++ (x ∷ y ∷ z ∷ [])
+put_three l i x y z h =
+    let a : i + 3 ≡ suc (i + 2) = omega arith in
+    let b : i + 2 ≡ suc (i + 1) = omega arith in
+    let l₁ = set l i x in
+    let l₂ = set l₁ (i + 1) y in
+    let n₁ : length l₁ ≡ length l = length-set l i x in
+    let n₂ : length l₂ ≡ length l = length-set l₁ (i + 1) y ∙ n₁ in
+    ap (λ (n : ℕ). take n (set l₂ (i + 2) z)) a
+    ∙ take-suc-set l₂ (i + 2) z (omega arith)
+    ∙ ap (λ (r : List _). r ++ (z ∷ [])) (ap (λ (n : ℕ). take n l₂) b ∙ take-suc-set l₁ (i + 1) y (omega arith) ∙ ap (λ (r : List _). r ++ (y ∷ [])) (ap (λ (n : ℕ). take n l₁) (add-one i) ∙ take-suc-set l i x (omega arith)))
+    ∙ simp append_assoc
 
 -- ---- refusals, given here or handed on
 

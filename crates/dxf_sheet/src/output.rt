@@ -27,7 +27,8 @@ fn hand_words<E: Write>(said: &mut E, refusal: Refusal, words: &[u8]) -> io::Res
     said.write_all(words)
 }
 
-// Says that a drawing is refused, and with which number.
+// Says that a drawing is refused, and with which number. Not inlined, so that a drawing that is not refused takes no stack for the text.
+#[inline(never)]
 fn refuse<E: Write>(said: &mut E, drawing: &[u8], refusal: Refusal) -> io::Result<()>
     requires { drawing_sheet drawing.now ≡ refused (number_of refusal) }
 {

@@ -76,7 +76,7 @@ stored_as {B = B} values values' {before = before} {after} {n} e w =
 
 -- ---- two buffers
 
-positive : (e : Refusal) → 1 ≤ number_of e
+pub positive : (e : Refusal) → 1 ≤ number_of e
 positive refusal.BadNumber = omega arith
 positive refusal.BadTolerance = omega arith
 positive refusal.BadOutline = omega arith

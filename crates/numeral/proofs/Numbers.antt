@@ -124,8 +124,14 @@ number_by : (t : List ℕ) → unsigned_of (is_minus t) (unsigned t) ≡ number_
 unfolding number_of
 number_by t = sym (whole_text_law (is_minus t) t)
 
-pub number_none : (t : List ℕ) → length t < 1 → unsigned_of false t ≡ number_of t
+-- an empty text is read as one that has no sign, and is refused
+pub number_empty : (t : List ℕ) → length t < 1 → unsigned_of false t ≡ number_of t
 unfolding unsigned is_minus
+number_empty [] h = number_by []
+number_empty (b ∷ t) h = absurd (lt_irrefl 0 (omega arith))
+
+pub number_none : (t : List ℕ) → length t < 1 → refused bad_text ≡ number_of t
+unfolding unsigned_of unsigned is_minus before_point after_point
 number_none [] h = number_by []
 number_none (b ∷ t) h = absurd (lt_irrefl 0 (omega arith))
 

@@ -111,6 +111,9 @@ pub record Reading (text : List ℕ) (v n i : ℕ) : Type 0 where
   pub is : digits_of n (drop i text) ≡ digits_of v text
   pub small : n ≤ cap + 1
 
+pub reading_start : (t : List ℕ) (v : ℕ) → v < cap → Reading t v v 0
+reading_start t v h = record { within = omega arith; is = refl; small = omega arith }
+
 digits_here : (n b : ℕ) (t : List ℕ) → is_digit_of b ≡ true → digits_of n (b ∷ t) ≡ digits_of (kept (10 * n + (b - 48))) t
 unfolding digits_of all_digits value_from
 digits_here n b t d = simp d (ap (λ (x : ℕ). check (all_digits t) bad_text (given x)) (kept_on (10 * n + (b - 48)) t))

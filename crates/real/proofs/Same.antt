@@ -7,6 +7,10 @@ use Rattle.real.specs.Reply.{Reply, refused, given, reply, reply_by}
 use Rattle.real.specs.declared.refusal.Refusal.{Refusal}
 use Rattle.real.specs.declared.refusal.Refusal.TheVariants as refusal
 
+-- a reply that can be read back tells its answer
+pub told : {A B : Type 0} {reply : A → Reply B} (back : Reply B → A) → ((a : A) → back (reply a) ≡ a) → (a b : A) → reply a ≡ reply b → a ≡ b
+told back read a b e = sym (read a) ∙ ap back e ∙ read b
+
 -- the refusal of a number
 abbrev named : ℕ → Refusal
 named n =
@@ -48,7 +52,7 @@ read_back f g q (Err e) = ap Err (read e)
 
 -- so does one by an f that can be read back
 pub reply_by_same : {A B : Type 0} (f : A → B) (g : B → A) → ((a : A) → g (f a) ≡ a) → (a b : Result A Refusal) → reply_by f a ≡ reply_by f b → a ≡ b
-reply_by_same f g q a b e = sym (read_back f g q a) ∙ ap (back g) e ∙ read_back f g q b
+reply_by_same f g q = told (back g) (read_back f g q)
 
 reply_is : {A : Type 0} (a : Result A Refusal) → reply a ≡ reply_by (λ (x : A). x) a
 reply_is (Ok a) = refl

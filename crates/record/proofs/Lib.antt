@@ -1,3 +1,4 @@
--- The theorems: Records, Same.
+-- The theorems: Records.
+mod Past
 mod Words
 pub mod Records

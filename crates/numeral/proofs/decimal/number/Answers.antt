@@ -5,7 +5,7 @@ use native.Mathlib.Omega.{arith}
 use borrow.Author.Tests.{ltb-true}
 use Rattle.numeral.specs.Decimal.{unsigned_of}
 use Rattle.numeral.proofs.Text.{to_end}
-use Rattle.numeral.proofs.Numbers.{number_minus, number_plus, number_none, number_bare, right}
+use Rattle.numeral.proofs.Numbers.{number_minus, number_plus, number_empty, number_bare, right}
 use Rattle.numeral.proofs.decimal.number.Goals as goal
 use Rattle.numeral.proofs.decimal.number.Goals.{in_default-via-then-text-lt1, in_default-via-else-text-lt1+in_default-1}
 
@@ -23,6 +23,6 @@ pub returns-in_default : goal.returns-in_default
 returns-in_default c =
     let t = c.args.text.now in
     elim c.in_default.branch [
-      | in_default-via-then-text-lt1 w ↦ right t _ (c.unsigned-in_default.ensures ∙ number_none t (omega (arith, ltb-true)))
+      | in_default-via-then-text-lt1 w ↦ right t _ (c.unsigned-in_default.ensures ∙ number_empty t (omega (arith, ltb-true)))
       | in_default-via-else-text-lt1+in_default-1 w ↦ right t _ (c.unsigned-in_default.ensures ∙ number_bare t (λ e. omega arith) (λ e. omega arith))
     ]
